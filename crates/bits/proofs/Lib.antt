@@ -1,0 +1,9 @@
+pub mod Products
+pub mod Finite
+pub mod Inverse
+pub mod Rank
+pub mod Vectors
+pub mod Lowest
+pub mod Gauss
+pub mod Memory
+pub mod Ends

@@ -1,0 +1,3 @@
+pub mod Gf2
+pub mod Gauss
+pub mod Refusals

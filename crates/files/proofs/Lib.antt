@@ -1,0 +1,9 @@
+pub mod Pieces
+pub mod Slots
+pub mod Meets
+pub mod Exact
+pub mod Looks
+pub mod Advance
+pub mod Inverting
+pub mod Sections
+pub mod Verdict

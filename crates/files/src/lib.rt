@@ -1,0 +1,5 @@
+mod layers;
+pub mod reader;
+pub mod reading;
+pub mod report;
+mod rows;
