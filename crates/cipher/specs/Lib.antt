@@ -1,2 +1,5 @@
 pub mod Parameters
 pub mod Sets
+pub mod LowMC
+pub mod Laws
+pub mod Published

@@ -1,1 +1,4 @@
+pub mod laws;
 pub mod params;
+pub mod published;
+pub mod row;

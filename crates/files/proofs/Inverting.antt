@@ -18,7 +18,7 @@ use Rattle.bits.proofs.Vectors.{rows-flat}
 use Rattle.cipher.specs.Sets.{Each, joined}
 use Rattle.files.specs.Format.{byteRows, byteValue, matricesOf, recordSize}
 use Rattle.files.specs.Preparing.{Inverting, SmallWitness, Tried, matrixAt}
-use Rattle.files.specs.Reading.{Invertible}
+use Rattle.cipher.specs.Laws.{Invertible}
 use Rattle.files.proofs.Pieces.{Bytes, bytes-drop, joined-more, matrices-more}
 
 -- ---- rows of c bytes have 8 c bits

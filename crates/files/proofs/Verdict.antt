@@ -2,10 +2,12 @@
 use Prim.Native.Nat.{ℕ, zero, suc, _+_, _-_, _*_, _≤_, _<_}
 use mathlib.Core.List.{List, [], _∷_, _++_}
 use mathlib.Core.Bool.{Bool, true, false, cond, not, _&&_}
+use mathlib.Core.Logic.{inl, inr}
 use mathlib.Core.Path.{_≡_, refl, sym, ap, ap₂, _∙_, subst}
 use native.Mathlib.Omega.{arith}
 use native.Mathlib.Nat.{sub-zero}
 use lib.Dec.{eqb, ltb}
+use lib.Pow.{pow-pos}
 use lib.ListN.{length, getD, drop}
 use Rattle.std.proofs.shelf.Tests.{cond-false, le-ltb, ltb-false}
 use Rattle.std.specs.declared.result.Result.{Result}
@@ -28,7 +30,9 @@ use Rattle.files.specs.Faults.{judged, layersDue}
 use Rattle.files.specs.Steps.{Answer, State, Stepped, afterHeader, atStart, paramsAt, past, recordAt, stepOf}
 use Rattle.files.specs.Surveys.{Sound, judgedFrom}
 use Rattle.files.specs.Preparing.{Found}
-use Rattle.files.specs.Reading.{Collapsed, Exact, Invertible, Prepared, Read, ReadAfter, header, judgedAll, passed, room}
+use Rattle.files.specs.Reading.{AsCollapsing, Clashing, Collapsed, Exact, Prepared, Read, ReadAfter, header, judgedAll, passed, room}
+use Rattle.cipher.specs.Laws.{Among, Clash, Invertible}
+use Rattle.cipher.proofs.Collapse.{clash-at, clash-collapses, never-both}
 use Rattle.files.proofs.Exact.{check-ok, file-is, file-passes, header-lawful, judged-is, then-ok}
 use Rattle.files.proofs.Inverting.{each-at}
 use Rattle.files.proofs.Pieces.{Bytes}
@@ -209,3 +213,33 @@ collapsed-from p file words wit wit′ e f =
       written = f .written;
       words-stay = refl;
     }
+
+-- ---- refused as collapsing exactly where two blocks meet
+
+among-at : (Ls : List (List ℕ)) (j : ℕ) → j < length Ls → Among (getD Ls j []) Ls
+among-at [] j h = absurd (omega arith)
+among-at (L ∷ Ls) zero h = inl refl
+among-at (L ∷ Ls) (suc j) h = inr (among-at Ls j (omega arith))
+
+module _ (file words wit words′ wit′ : List ℕ) (bytes : Bytes file) where
+  lawful-file : (p : Params) → passed file (length words) (length wit) ≡ Ok p → LawfulSet (setOf p file)
+  lawful-file p h =
+      let ps = parts file words wit words′ wit′ p h in
+      file-is p file bytes (ps .0) (ps .1) .0
+
+  only-at : (p : Params) → LawfulSet (setOf p file) → (a : Result Params Fault) → ReadAfter file words wit words′ wit′ (Ok p) a → AsCollapsing a → Clash (setOf p file)
+  only-at p lawful (Ok q) h c = absurd c
+  only-at p lawful (Err e) h c =
+      let s : Set = setOf p file in
+      let j : h .round - 1 < length (s .layers) = omega (arith, h .least, h .most, lawful .rounds) in
+      clash-at s lawful (getD (s .layers) (h .round - 1) [], among-at (s .layers) (h .round - 1) j, (h .vector, h .collapses)) 0 (pow-pos (p .k))
+
+  always-at : (p : Params) → LawfulSet (setOf p file) → (a : Result Params Fault) → ReadAfter file words wit words′ wit′ (Ok p) a → Clash (setOf p file) → AsCollapsing a
+  always-at p lawful (Ok q) h c = absurd (never-both (setOf p file .layers) (h .1 .inverses) (clash-collapses (setOf p file) lawful c))
+  always-at p lawful (Err e) h c = ap (λ (x : Fault). x .refusal) (h .refused)
+
+  pub clashing-from : (answer : Result Params Fault) → Read file words wit words′ wit′ answer → Clashing file words wit answer
+  clashing-from answer h = record {
+    only = λ p is. only-at p (lawful-file p is) answer (subst (λ (r : Result Params Fault). ReadAfter file words wit words′ wit′ r answer) is h);
+    always = λ p is. always-at p (lawful-file p is) answer (subst (λ (r : Result Params Fault). ReadAfter file words wit words′ wit′ r answer) is h);
+  }

@@ -14,7 +14,7 @@ use Rattle.bits.specs.Refusals.{faultAt}
 use Rattle.bits.specs.Gf2.{Witness, flat, inverseOf, value, wordsOf}
 use Rattle.cipher.specs.Sets.{Each}
 use Rattle.files.specs.Format.{byteRows, recordSize}
-use Rattle.files.specs.Reading.{Invertible}
+use Rattle.cipher.specs.Laws.{Invertible}
 
 -- the matrix of record j of those that stand one after another
 abbrev pub matrixAt : ℕ → ℕ → ℕ → List ℕ → List ℕ

@@ -11,10 +11,11 @@ use Rattle.bits.specs.declared.refusal.Refusal.the-variants.{LayerCollapses, To
 use Rattle.bits.specs.declared.refusal.Layer.the-variants.{File, Set as SetLayer}
 use Rattle.bits.specs.declared.refusal.Fault.{Fault}
 use Rattle.bits.specs.Refusals.{faultAt, firstOf, then}
-use Rattle.bits.specs.Gf2.{Inverse, Witness, inverseOf, wordsOf}
+use Rattle.bits.specs.Gf2.{Witness, wordsOf}
 use Rattle.cipher.specs.declared.params.Params.{Params}
 use Rattle.cipher.specs.Parameters.{limits, preparedWords}
 use Rattle.cipher.specs.Sets.{Each, LawfulSet, Set, prepared}
+use Rattle.cipher.specs.Laws.{Clash, Invertible}
 use Rattle.files.specs.declared.reader.Mark.the-variants.{Header}
 use Rattle.files.specs.Format.{fileOf, first, second, setOf}
 use Rattle.files.specs.Faults.{judged, layersDue}
@@ -43,9 +44,6 @@ judgedAll file p = judged file 8 (layersDue p 1 (p .r))
 -- every check but the last, which is that no layer collapses
 abbrev pub passed : List ℕ → ℕ → ℕ → Result Params Fault
 passed file words witness = then (header file) (λ p. then (room p words witness) (λ _. then (judgedAll file p) (λ _. Ok p)))
-
-abbrev pub Invertible : List ℕ → Type 0
-Invertible L = Inverse L (inverseOf L)
 
 -- what reading leaves: the memory before is `words` and `wit`, after it `words′` and `wit′`
 abbrev pub Unchanged : List ℕ → List ℕ → List ℕ → List ℕ → Type 0
@@ -84,3 +82,14 @@ pub record Exact (file words wit words′ wit′ : List ℕ) (answer : Result Pa
   -- the file of a lawful set is accepted where there is room and no layer collapses
   pub complete : (s : Set) → LawfulSet s → fileOf s ≡ file → preparedWords (s .params) ≤ length words → 4 ≤ length wit → Each Invertible (s .layers)
       → (answer ≡ Ok (s .params)) × Prepared s words wit words′ wit′
+
+-- ---- and what the last refusal means: some key gives two different blocks one ciphertext
+
+-- an answer that refuses the file as collapsing
+abbrev pub AsCollapsing : Result Params Fault → Type 0
+AsCollapsing (Ok p) = ⊥
+AsCollapsing (Err e) = e .refusal ≡ LayerCollapses
+
+pub record Clashing (file words wit : List ℕ) (answer : Result Params Fault) : Type 0 where
+  pub only : (p : Params) → passed file (length words) (length wit) ≡ Ok p → AsCollapsing answer → Clash (setOf p file)
+  pub always : (p : Params) → passed file (length words) (length wit) ≡ Ok p → Clash (setOf p file) → AsCollapsing answer

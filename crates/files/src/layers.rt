@@ -7,7 +7,7 @@ ghost use Rattle.bits.specs.Gf2.{flat, inverseOf, widthOf};
 ghost use Rattle.cipher.specs.Sets.{Each, joined};
 ghost use Rattle.files.specs.Format.{byteWidth, matricesOf, recordSize};
 ghost use Rattle.files.specs.Preparing.{Checked, Inverting, Tried, matrixAt};
-ghost use Rattle.files.specs.Reading.{Invertible};
+ghost use Rattle.cipher.specs.Laws.{Invertible};
 use crate::reader::byte_width;
 use crate::rows::load_rows;
 use bits::elimination::Inversion;

@@ -6,7 +6,8 @@ ghost use lib.ListN.{drop, length};
 ghost use Rattle.cipher.specs.Parameters.{Lawful, preparedWords};
 ghost use Rattle.cipher.specs.Sets.{Each, prepared};
 ghost use Rattle.files.specs.Format.{endAt, setOf};
-ghost use Rattle.files.specs.Reading.{Exact, Invertible, Read, room};
+ghost use Rattle.files.specs.Reading.{Clashing, Exact, Read, room};
+ghost use Rattle.cipher.specs.Laws.{Invertible};
 use crate::layers::check_layers;
 use crate::layers::load_inverses;
 use crate::reader::Reader;
@@ -79,6 +80,7 @@ fn prepare(file: &[u8], params: Params, words: &mut [u64])
 // only where a layer collapses.
 pub fn read(file: &[u8], words: &mut [u64], witness: &mut [u64]) -> Result<Params, Fault>
     ensures read { λ r. ⌜ Read (now (file .entry)) (now (words .entry)) (now (witness .entry)) (now (words .exit)) (now (witness .exit)) r ⌝ }
+    ensures clashing { λ r. ⌜ Clashing (now (file .entry)) (now (words .entry)) (now (witness .entry)) r ⌝ }
     ensures exact { λ r. ⌜ Exact (now (file .entry)) (now (words .entry)) (now (witness .entry)) (now (words .exit)) (now (witness .exit)) r ⌝ }
 {
     let mut reader = Reader::new(file);

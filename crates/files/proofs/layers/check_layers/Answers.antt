@@ -7,7 +7,7 @@ use Rattle.bits.proofs.Vectors.{row-ends}
 use Rattle.bits.specs.Gf2.{Witness}
 use Rattle.cipher.specs.Sets.{Each}
 use Rattle.files.specs.Format.{byteWidth, matricesOf, recordSize}
-use Rattle.files.specs.Reading.{Invertible}
+use Rattle.cipher.specs.Laws.{Invertible}
 use Rattle.files.proofs.Inverting.{each-more, matrix-at}
 use Rattle.files.proofs.layers.check_layers.Needs as need
 

@@ -1,7 +1,7 @@
 use mathlib.Core.Path.{_≡_}
 use Rattle.cipher.specs.Sets.{Each}
 use Rattle.files.specs.Format.{byteWidth, matricesOf}
-use Rattle.files.specs.Reading.{Invertible}
+use Rattle.cipher.specs.Laws.{Invertible}
 use Rattle.files.proofs.layers.check_layers.Given as given
 
 abbrev pub Inv-loop-j : given.InvT-loop-j

@@ -10,7 +10,7 @@ use Rattle.bits.proofs.Vectors.{row-ends}
 use Rattle.cipher.specs.Sets.{joined}
 use Rattle.files.specs.Format.{byteWidth, matricesOf, recordSize}
 use Rattle.files.specs.Preparing.{matrixAt}
-use Rattle.files.specs.Reading.{Invertible}
+use Rattle.cipher.specs.Laws.{Invertible}
 use Rattle.files.proofs.Inverting.{each-at, inverses-more, inverted, length-matrices, matrix-at}
 use Rattle.files.proofs.Pieces.{all-written, put-piece}
 use Rattle.files.proofs.layers.load_inverses.Needs as need

@@ -9,7 +9,7 @@ use Rattle.cipher.specs.declared.params.Params.{Params}
 use Rattle.cipher.specs.Parameters.{preparedWords}
 use Rattle.cipher.specs.Sets.{Each, joined}
 use Rattle.files.specs.Format.{byteWidth, constantsAt, keysAt, matricesOf}
-use Rattle.files.specs.Reading.{Invertible}
+use Rattle.cipher.specs.Laws.{Invertible}
 use Rattle.files.proofs.Sections.{fourth, length-inverses, length-records, length-third}
 use Rattle.files.proofs.reading.prepare.Needs as need
 

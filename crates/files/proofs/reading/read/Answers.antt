@@ -14,11 +14,13 @@ use Rattle.cipher.specs.declared.params.Params.{Params}
 use Rattle.cipher.specs.Sets.{Each}
 use Rattle.files.specs.Format.{byteWidth, matricesOf, setOf}
 use Rattle.files.specs.Preparing.{Checked, Found}
-use Rattle.files.specs.Reading.{Invertible, Prepared, header, judgedAll, passed, room}
+use Rattle.files.specs.Reading.{Prepared, header, judgedAll, passed, room}
+use Rattle.cipher.specs.Laws.{Invertible}
 use Rattle.files.specs.Steps.{State, afterHeader, stateOf}
 use Rattle.files.specs.Surveys.{Sound, judgedFrom}
 use Rattle.files.proofs.Exact.{header-lawful}
-use Rattle.files.proofs.Verdict.{collapsed-from, end-is, exact-from, judged-start, passed-header, passed-judged, passed-room, read-collapsed, read-prepared, read-refused, room-is, sound-start}
+use Rattle.files.proofs.Pieces.{Bytes}
+use Rattle.files.proofs.Verdict.{clashing-from, collapsed-from, end-is, exact-from, judged-start, passed-header, passed-judged, passed-room, read-collapsed, read-prepared, read-refused, room-is, sound-start}
 use Rattle.files.proofs.reading.read.Needs as need
 
 -- what the reader's file and state, given by equations, say of the file itself
@@ -39,7 +41,12 @@ returns-in-Break-params c =
     let hd : header f ≡ Err (q .0) =
     ap (λ x. header (now x)) (sym (c .new-reader .ensures .file)) ∙ sym (c .header .ensures .value) ∙ c .in-Break-params .was tt ∙ ap Err (sym (q .2)) in
     let r = read-refused f ws wit ws wit (q .0) (c .from-residual .result) (passed-header f (length ws) (length wit) (q .0) hd) (q .1) refl refl in
-    record { read = r; exact = exact-from f ws wit ws wit (c .from-residual .result) (λ i. omega (arith, c .typed .file i)) r }
+    let bytes : Bytes f = λ i. omega (arith, c .typed .file i) in
+    record {
+      read = r;
+      clashing = clashing-from f ws wit ws wit bytes (c .from-residual .result) r;
+      exact = exact-from f ws wit ws wit (c .from-residual .result) bytes r;
+    }
 
 pub returns-in-Break-check-room : need.returns-in-Break-check-room
 returns-in-Break-check-room c =
@@ -52,7 +59,12 @@ returns-in-Break-check-room c =
     let q = err-from-errBy a (c .from-residual-in-Break-check-room .ensures .1) in
     let no : room p (length ws) (length wit) ≡ Err (q .0) = sym (c .check-room .ensures) ∙ c .in-Break-check-room .was tt ∙ ap Err (sym (q .2)) in
     let r = read-refused f ws wit ws wit (q .0) a (passed-room f (length ws) (length wit) p hd (q .0) no) (q .1) refl refl in
-    record { read = r; exact = exact-from f ws wit ws wit a (λ i. omega (arith, c .typed .file i)) r }
+    let bytes : Bytes f = λ i. omega (arith, c .typed .file i) in
+    record {
+      read = r;
+      clashing = clashing-from f ws wit ws wit bytes a r;
+      exact = exact-from f ws wit ws wit a bytes r;
+    }
 
 pub survey-requires : need.survey-requires
 survey-requires c κs =
@@ -78,7 +90,12 @@ returns-in-Break-survey c =
     let no : judgedAll f p ≡ Err (q .0) =
     sym (judged-here (c .header .last .self .file) (c .args .file) (stateOf (c .header .last .self)) p ref state) ∙ sym (c .survey .ensures) ∙ c .in-Break-survey .was tt ∙ ap Err (sym (q .2)) in
     let r = read-refused f ws wit ws wit (q .0) a (passed-judged f (length ws) (length wit) p hd ok (Err (q .0)) no) (q .1) refl refl in
-    record { read = r; exact = exact-from f ws wit ws wit a (λ i. omega (arith, c .typed .file i)) r }
+    let bytes : Bytes f = λ i. omega (arith, c .typed .file i) in
+    record {
+      read = r;
+      clashing = clashing-from f ws wit ws wit bytes a r;
+      exact = exact-from f ws wit ws wit a bytes r;
+    }
 
 pub check-layers-requires : need.check-layers-requires
 check-layers-requires c κs =
@@ -118,7 +135,12 @@ returns-in-Break-check-layers c =
     subst (λ xs. Found (matricesOf (byteWidth (p .n)) (p .n) (p .r) xs) (p .r) wit wit′ (q .0)) (take-rest f 8)
     (subst (Found _ (p .r) wit wit′) (sym (q .2)) (c .in-Break-check-layers .ensures tt)) in
     let r = read-collapsed f ws wit ws wit′ p (q .0) a (passed-judged f (length ws) (length wit) p hd ok (Ok tt) jd) (q .1) (collapsed-from p f ws wit wit′ (q .0) found) in
-    record { read = r; exact = exact-from f ws wit ws wit′ a (λ i. omega (arith, c .typed .file i)) r }
+    let bytes : Bytes f = λ i. omega (arith, c .typed .file i) in
+    record {
+      read = r;
+      clashing = clashing-from f ws wit ws wit′ bytes a r;
+      exact = exact-from f ws wit ws wit′ a bytes r;
+    }
 
 pub prepare-requires : need.prepare-requires
 prepare-requires c κs =
@@ -159,4 +181,9 @@ returns c =
       witness = ls .1;
     } in
     let r = read-prepared f ws wit (c .prepare .last .words) (c .check-layers .last .witness) p p (Ok p) (passed-judged f (length ws) (length wit) p hd ok (Ok tt) jd) refl refl done in
-    record { read = r; exact = exact-from f ws wit (c .prepare .last .words) (c .check-layers .last .witness) (Ok p) (λ i. omega (arith, c .typed .file i)) r }
+    let bytes : Bytes f = λ i. omega (arith, c .typed .file i) in
+    record {
+      read = r;
+      clashing = clashing-from f ws wit (c .prepare .last .words) (c .check-layers .last .witness) bytes (Ok p) r;
+      exact = exact-from f ws wit (c .prepare .last .words) (c .check-layers .last .witness) (Ok p) bytes r;
+    }
