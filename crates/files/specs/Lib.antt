@@ -5,4 +5,5 @@ pub mod Words
 pub mod Surveys
 pub mod Reading
 pub mod Preparing
+pub mod Samples
 pub mod Line

@@ -3,3 +3,4 @@ pub mod reader;
 pub mod reading;
 pub mod report;
 mod rows;
+pub mod sample;
