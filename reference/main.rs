@@ -1,5 +1,5 @@
 // A second implementation, written from docs/ alone and sharing no code with crates/: vectors of bool, plain loops, the standard library.
-// It reads one case a line from standard input and prints one line a case; crates/oracle prints the same for the same input.
+// It reads one case a line from standard input and prints one line a case; the programs `report` and `oracle` of crates/ print the same.
 use std::io::{self, BufRead, Write};
 
 type Bits = Vec<bool>;
@@ -217,18 +217,32 @@ fn unhex(text: &str) -> Vec<u8> {
     (0..text.len() / 2).map(|i| u8::from_str_radix(&text[2 * i..2 * i + 2], 16).expect("hexadecimal")).collect()
 }
 
-// Bits as bytes in hexadecimal, lowest first.
-fn hex(bits: &Bits) -> String {
-    bits.chunks(8).map(|c| format!("{:02x}", c.iter().enumerate().map(|(j, b)| (*b as u8) << j).sum::<u8>())).collect()
+// Bits as words in decimal, lowest first.
+fn words(bits: &Bits) -> String {
+    bits.chunks(64).map(|c| format!("{} ", c.iter().enumerate().map(|(j, b)| (*b as u64) << j).sum::<u64>())).collect()
 }
 
-// Encrypts and decrypts one block under the set of a file; key and block are given as bytes.
-fn crypt(file: &[u8], key: &[u8], block: &[u8]) -> String {
-    match read(file, usize::MAX) {
+// The first word of a vector of so many bits that has a bit past them.
+fn stray(bytes: &[u8], bits: usize) -> Option<u64> {
+    (bits..(bits + 63) / 64 * 64).find(|&j| bytes[j / 8] >> (j % 8) & 1 == 1).map(|j| j as u64 / 64)
+}
+
+// Encrypts and decrypts one block under the set of a file; key and block are given as 32 bytes each.
+fn crypt(key: &[u8], block: &[u8], file: &[u8]) -> String {
+    let outcome = read(file, 8192).and_then(|set| {
+        if let Some(i) = stray(key, set.k) {
+            return Err((6, i));
+        }
+        if let Some(i) = stray(block, set.n) {
+            return Err((6, i));
+        }
+        Ok(set)
+    });
+    match outcome {
         Err((number, place)) => format!("NO {number} {place}"),
         Ok(set) => {
             let (key, block) = (row_bits(key, set.k), row_bits(block, set.n));
-            format!("{} {}", hex(&encrypt(&set, &key, &block)), hex(&decrypt(&set, &key, &block)))
+            format!("{}{}", words(&encrypt(&set, &key, &block)), words(&decrypt(&set, &key, &block)))
         }
     }
 }
@@ -238,10 +252,10 @@ fn main() {
     let mut out = out.lock();
     for line in io::stdin().lock().lines() {
         let line = line.expect("text");
-        let words: Vec<&str> = line.split(' ').collect();
-        let answer = match words[0] {
-            "file" => report(&unhex(words[1])),
-            "crypt" => crypt(&unhex(words[1]), &unhex(words[2]), &unhex(words[3])),
+        let parts: Vec<&str> = line.split(' ').collect();
+        let answer = match parts[0] {
+            "file" => report(&unhex(parts[1])),
+            "crypt" => crypt(&unhex(parts[1]), &unhex(parts[2]), &unhex(parts[3])),
             other => format!("unknown case {other}"),
         };
         writeln!(out, "{answer}").expect("output");

@@ -3,3 +3,10 @@ pub mod Substitution
 pub mod Rounds
 pub mod Collapse
 pub mod Rule
+pub mod Triples
+pub mod Bounds
+pub mod Passes
+pub mod Strays
+pub mod Sums
+pub mod Opened
+pub mod Calls

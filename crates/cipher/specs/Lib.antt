@@ -3,3 +3,9 @@ pub mod Sets
 pub mod LowMC
 pub mod Laws
 pub mod Published
+pub mod Instances
+pub mod Blocks
+pub mod Places
+pub mod Sound
+pub mod Holds
+pub mod Directions

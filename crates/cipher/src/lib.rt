@@ -1,4 +1,14 @@
+pub mod block;
+pub mod direction;
+mod guard;
+pub mod instance;
+mod inverse;
 pub mod laws;
+pub mod opening;
 pub mod params;
+mod places;
 pub mod published;
+mod round;
 pub mod row;
+mod state;
+pub mod stray;

@@ -1,6 +1,6 @@
 use Prim.Native.Nat.{_-_, _≤_}
 use lib.ListN.{length}
-use Rattle.report.proofs.read_front.Given as given
+use Rattle.input.proofs.read_front.Given as given
 
 abbrev pub Inv-loop-got : given.InvT-loop-got
 Inv-loop-got g l = l .got ≤ length (l .entry .buffer)

@@ -1,0 +1,6 @@
+// Which way a block goes.
+#[derive(Clone, Copy, PartialEq, Eq, Debug)]
+pub enum Direction {
+    Encrypt,
+    Decrypt,
+}
