@@ -1,4 +1,6 @@
 // The sample set file: n = k = 3, one triple, one round; layer rows 2, 4, 1; constant 1; both key matrices the identity.
+use cipher::params::Params;
+
 pub const SAMPLE: [u8; 32] = [
     b'P',
     b'R',
@@ -33,3 +35,13 @@ pub const SAMPLE: [u8; 32] = [
     b'E',
     b'N', // end
 ];
+
+// The same set prepared: layer, constant, both key matrices, the inverse of the layer.
+pub const PREPARED: [u64; 13] = [2, 4, 1, 1, 1, 2, 4, 1, 2, 4, 4, 1, 2];
+
+pub const PARAMS: Params = Params {
+    n: 3,
+    k: 3,
+    m: 1,
+    r: 1,
+};
