@@ -3,7 +3,6 @@ use Prim.Native.Nat.{ℕ, _+_, _*_, _<_, _≤_}
 use mathlib.Core.Path.{_≡_, subst, sym}
 use native.Mathlib.Omega.{arith}
 use native.Mathlib.Nat.{mul-le-mul}
-use Rattle.bits.specs.Gf2.{widthOf}
 use Rattle.bits.proofs.Vectors.{row-ends}
 use Rattle.cipher.specs.declared.params.Params.{Params}
 use Rattle.cipher.specs.declared.places.Places.{Places}
@@ -81,8 +80,3 @@ roomy p l i h at w v len ea ew ev room =
     record { layer = omega (arith, f .layer); constant = omega (arith, f .constant); key = omega (arith, f .key); inverse = omega (arith, f .inverse); wide = s .wide } in
     subst (λ (x : ℕ). Roomy p at x v len) (sym ew) (subst (λ (x : ℕ). Roomy p at (blockWords p) x len) (sym ev)
     (subst (λ (x : Places). Roomy p x (blockWords p) (keyWords p) len) (sym ea) here))
-
--- the first key matrix
-pub first-fits : (p : Params) → Lawful p → (v len : ℕ) → v ≡ keyWords p → preparedWords p ≤ len → keysFrom p + p .n * v ≤ len
-first-fits p l v len ev room =
-    subst (λ (x : ℕ). keysFrom p + p .n * x ≤ len) (sym ev) (omega (arith, placed p l 0 (omega (arith, l .r-least)) .first))

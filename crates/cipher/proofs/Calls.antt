@@ -1,12 +1,11 @@
 -- A call on one block: what its checks tell, and that the other direction leads back.
-use Prim.Native.Nat.{ℕ, _+_, _*_, _/_, _^_, _<_, _≤_}
-use mathlib.Core.Bool.{Bool, true, false, not}
+use Prim.Native.Nat.{ℕ, _*_, _^_, _<_, _≤_}
+use mathlib.Core.Bool.{Bool, true, false}
 use mathlib.Core.List.{List, [], _∷_}
 use mathlib.Core.Path.{_≡_, refl, sym, ap, _∙_, subst}
 use native.Mathlib.Omega.{arith}
-use lib.Dec.{eqb, ltb}
 use lib.Pow.{pow-mono}
-use lib.ListN.{length, take}
+use lib.ListN.{length}
 use Rattle.std.proofs.shelf.Lists.{take-all}
 use Rattle.std.proofs.shelf.Tests.{eqb-true, ltb-false, not-false}
 use Rattle.std.specs.declared.result.Result.{Result}
@@ -22,11 +21,11 @@ use Rattle.cipher.specs.declared.direction.Direction.{Direction}
 use Rattle.cipher.specs.declared.direction.Direction.the-variants.{Encrypt, Decrypt}
 use Rattle.cipher.specs.Parameters.{blockWords, keyWords}
 use Rattle.cipher.specs.Sets.{Set}
-use Rattle.cipher.specs.Instances.{setIn, strayAt}
+use Rattle.cipher.specs.Instances.{setIn}
 use Rattle.cipher.specs.Blocks.{Held, LeadsBack, blockAfter, blockChecks}
 use Rattle.cipher.specs.Sound.{TrueInverses, heldOf, passes}
 use Rattle.cipher.specs.Directions.{against, along}
-use Rattle.cipher.proofs.Opened.{no-stray, one-check, opening-sound, then-ok}
+use Rattle.cipher.proofs.Opened.{no-stray, one-check, opening-sound}
 use Rattle.cipher.proofs.Rounds.{decrypt-below, decrypt-encrypt, encrypt-below, encrypt-decrypt}
 use Rattle.cipher.proofs.Strays.{row-none}
 

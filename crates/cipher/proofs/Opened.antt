@@ -1,11 +1,11 @@
 -- What the checks of opening tell of a set that passes them.
-use Prim.Native.Nat.{ℕ, zero, suc, _+_, _-_, _*_, _/_, _%_, _^_, _<_, _≤_}
-use mathlib.Core.Bool.{Bool, true, false, cond, _&&_}
+use Prim.Native.Nat.{ℕ, zero, suc, _+_, _-_, _*_, _/_, _^_, _<_, _≤_}
+use mathlib.Core.Bool.{Bool, true, false, cond}
 use mathlib.Core.List.{List, [], _∷_, _++_, map}
 use mathlib.Core.Path.{_≡_, refl, sym, ap, ap₂, _∙_, subst}
 use native.Mathlib.Omega.{arith}
 use native.Mathlib.Nat.{add-comm, mul-assoc, suc-mul, zero-mul}
-use lib.Dec.{eqb, ltb}
+use lib.Dec.{eqb}
 use lib.ListN.{drop, length, length-drop}
 use Rattle.std.proofs.shelf.Lists.{drop-drop}
 use Rattle.std.proofs.shelf.Tests.{and-parts, eqb-true, ltb-false}
@@ -17,7 +17,7 @@ use Rattle.std.specs.declared.option.Option.the-variants.{Some, None}
 use Rattle.bits.specs.declared.refusal.Fault.{Fault}
 use Rattle.bits.specs.declared.refusal.Layer.{Layer}
 use Rattle.bits.specs.Refusals.{firstOf, then}
-use Rattle.bits.specs.Gf2.{Below, Inverse, comb, dot, inverseOf, mul, rows}
+use Rattle.bits.specs.Gf2.{Below, Inverse, inverseOf, mul, rows}
 use Rattle.bits.proofs.Ends.{inverse-is}
 use Rattle.bits.proofs.Inverse.{one-side-is-both}
 use Rattle.bits.proofs.Products.{pow-step}
@@ -29,7 +29,7 @@ use Rattle.cipher.specs.Sets.{Each, LawfulSet, Matrix}
 use Rattle.cipher.specs.Laws.{Invertible}
 use Rattle.cipher.specs.Instances.{constantsFrom, firstStray, firstWrong, inversesFrom, inversesIn, keysFrom, matricesIn, opening, same, setIn, strayAt, times, units, wordLimits, wrongAt}
 use Rattle.cipher.specs.Sound.{Sound, TrueInverses, heldOf, paramsIn, passes}
-use Rattle.cipher.proofs.Bounds.{Small, small}
+use Rattle.cipher.proofs.Bounds.{small}
 use Rattle.cipher.proofs.Limits.{limits-facts}
 use Rattle.cipher.proofs.Passes.{length-matrices}
 use Rattle.cipher.proofs.Strays.{before-inverses, before-keys, rows-none, set-none, to-the-end}

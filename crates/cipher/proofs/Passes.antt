@@ -1,9 +1,9 @@
 -- Rounds on a set that stands in words: what one round computes there, and the steps of the loops over them.
-use Prim.Native.Nat.{ℕ, zero, suc, _+_, _-_, _*_, _<_, _≤_}
+use Prim.Native.Nat.{ℕ, zero, suc, _+_, _-_, _*_, _<_}
 use mathlib.Core.List.{List, [], _∷_, map}
 use mathlib.Core.Path.{_≡_, refl, sym, ap, ap₂, _∙_}
 use native.Mathlib.Omega.{arith}
-use native.Mathlib.Nat.{add-comm, add-zero, suc-mul, zero-mul}
+use native.Mathlib.Nat.{add-comm, suc-mul, zero-mul}
 use native.Mathlib.Numerals.{add-one}
 use lib.Bits.{bitXor, xor-comm}
 use lib.ListN.{drop, getD, length, take}
@@ -198,12 +198,6 @@ module _ (p : Params) (ws : List ℕ) where
       ∙ ap (unround m key (layerAt p ws j) (constantOf p ws j) (keyAt p ws j)) (inv ∙ ap all past)
       ∙ sym (ap all here ∙ ap₂ (λ (Ls : List (List ℕ)) (Cs : List ℕ). unrounds m key Ls Cs (keysLeft p ws j) u) (layers-open j l) (constants-open j l)
       ∙ ap (λ (Ks : List (List ℕ)). unrounds m key (layerAt p ws j ∷ layersLeft p ws (j + 1)) (constantOf p ws j ∷ constantsLeft p ws (j + 1)) Ks u) (keys-open j l))
-
-  -- its start: none is undone
-  pub unrounds-none : (m key u : ℕ) → u ≡ unrounds m key (layersLeft p ws (p .r - 0)) (constantsLeft p ws (p .r - 0)) (keysLeft p ws (p .r - 0)) u
-  unrounds-none m key u =
-      let z : 0 ≡ p .r - (p .r - 0) = omega arith in
-      ap (λ (k : ℕ). unrounds m key (matricesIn (blockWords p) (p .n) k (drop (placesOf p (p .r - 0) .layer) ws)) (constantsLeft p ws (p .r - 0)) (keysLeft p ws (p .r - 0)) u) z
 
   pub decrypted : (i key s t y : ℕ) → i ≡ p .r
       → s ≡ unrounds (p .m) key (layersLeft p ws (p .r - i)) (constantsLeft p ws (p .r - i)) (keysLeft p ws (p .r - i)) y

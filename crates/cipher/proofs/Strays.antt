@@ -3,17 +3,15 @@ use Prim.Native.Nat.{ℕ, zero, suc, _+_, _-_, _*_, _/_, _^_, _<_, _≤_, min}
 use mathlib.Core.Bool.{Bool, true, false, cond, not}
 use mathlib.Core.List.{List, [], _∷_, _++_}
 use mathlib.Core.Path.{_≡_, refl, sym, ap, ap₂, _∙_, subst}
-use mathlib.Core.Logic.{inl, inr}
 use native.Mathlib.Omega.{arith}
 use native.Mathlib.Decide.{decLe, decLt}
 use native.Mathlib.Nat.{add-mul, add-zero, div-eq-of-lt, min-eq-left, min-eq-right, mod-lt, mul-assoc, suc-mul, zero-mul}
-use native.Mathlib.Numerals.{add-one}
 use lib.Dec.{eqb, ltb}
 use lib.Pow.{pow-add, pow-pos}
 use lib.ListN.{drop, getD, length, length-append, length-drop, length-take, take}
 use Rattle.std.proofs.shelf.Bits.{shr-split}
-use Rattle.std.proofs.shelf.Lists.{drop-drop, drop-more, drop-all, take-all}
-use Rattle.std.proofs.shelf.Tests.{eq-eqb, le-ltb, lt-ltb, ltb-false, ltb-true, ne-eqb}
+use Rattle.std.proofs.shelf.Lists.{drop-drop, drop-more}
+use Rattle.std.proofs.shelf.Tests.{eq-eqb, le-ltb, lt-ltb, ltb-true, ne-eqb}
 use Rattle.std.specs.declared.option.Option.{Option}
 use Rattle.std.specs.declared.option.Option.the-variants.{Some, None}
 use Rattle.bits.specs.Gf2.{Below, rows, value}
@@ -64,11 +62,6 @@ stray-more i left ws all h b inv = go (ltb (getD ws i 0) (2 ^ min 64 left)) _ b 
     go : (b : Bool) (r : Option ℕ) → not b ≡ false → cond b r (Some i) ≡ all → r ≡ all
     go true r e q = q
     go false r e q = absurd (let z : _≡_ {A = ℕ} 0 1 = cc in omega arith)
-
-pub stray-end : (i left : ℕ) (ws : List ℕ) (all : Option ℕ) → length ws ≤ i → firstStray i (rowLimits (length ws - i) left) (drop i ws) ≡ all → None ≡ all
-stray-end i left ws all h inv =
-    let e : 0 ≡ length ws - i = omega arith in
-    ap (λ (k : ℕ). firstStray i (rowLimits k left) (drop i ws)) e ∙ inv
 
 -- ---- one part of the words after another
 

@@ -1,10 +1,10 @@
 -- The product of an inverse and a layer, row by row, and the steps of the loops over it.
-use Prim.Native.Nat.{ℕ, zero, suc, _+_, _-_, _*_, _/_, _%_, _^_, _<_, _≤_}
-use mathlib.Core.Bool.{Bool, true, false, cond, not, _&&_}
-use mathlib.Core.List.{List, [], _∷_, map}
-use mathlib.Core.Path.{_≡_, refl, sym, ap, ap₂, _∙_, subst}
+use Prim.Native.Nat.{ℕ, suc, _+_, _-_, _*_, _/_, _%_, _^_, _<_, _≤_}
+use mathlib.Core.Bool.{Bool, true, false, cond, _&&_}
+use mathlib.Core.List.{List, _∷_}
+use mathlib.Core.Path.{_≡_, refl, sym, ap, ap₂, _∙_}
 use native.Mathlib.Omega.{arith}
-use native.Mathlib.Nat.{add-zero, div-one, zero-mul}
+use native.Mathlib.Nat.{div-one, zero-mul}
 use native.Mathlib.Numerals.{add-one}
 use lib.Bits.{bitXor, xor-assoc, xor-comm, xor-self, xor-zero-r}
 use lib.Dec.{eqb}
@@ -12,7 +12,7 @@ use lib.Pow.{shr-shr}
 use lib.ListN.{drop, length, length-drop, length-take, take}
 use Rattle.std.proofs.shelf.Tests.{eq-eqb, ne-eqb}
 use Rattle.std.specs.declared.option.Option.{Option}
-use Rattle.std.specs.declared.option.Option.the-variants.{Some, None}
+use Rattle.std.specs.declared.option.Option.the-variants.{Some}
 use Rattle.bits.specs.Gf2.{comb, dot, rows, value}
 use Rattle.bits.proofs.Inverse.{xor-same}
 use Rattle.bits.proofs.Products.{dot-zero-r, pow-step}
@@ -79,12 +79,6 @@ module _ (w n : ℕ) (ws L : List ℕ) where
       ap₂ (λ (rs : List ℕ) (k : ℕ). same (times rs L) (units (2 ^ j) k)) (rows-open-at w n j a b ws h e) d
       ∙ ap (λ (x : ℕ). eqb (comb L (constantAt w a ws)) (2 ^ j) && same (times (rows w (n - (j + 1)) (drop b ws)) L) (units x (n - (j + 1)))) q
 
-  pub same-start : (at : ℕ) → same (times (rows w (n - 0) (drop (at + 0 * w) ws)) L) (units (2 ^ 0) (n - 0)) ≡ same (times (matrixAt w n at ws) L) (units 1 n)
-  same-start at =
-      let d : n - 0 ≡ n = omega arith in
-      let a : at + 0 * w ≡ at = omega (arith, zero-mul w) in
-      ap₂ (λ (k i : ℕ). same (times (rows w k (drop i ws)) L) (units 1 k)) d a
-
   pub same-more : (j a b : ℕ) (r all : Bool) → j < n → a + w ≡ b → r ≡ eqb (comb L (constantAt w a ws)) (2 ^ j) → r ≡ true
       → same (times (rows w (n - j) (drop a ws)) L) (units (2 ^ j) (n - j)) ≡ all
       → same (times (rows w (n - (j + 1)) (drop b ws)) L) (units (2 ^ (j + 1)) (n - (j + 1))) ≡ all
@@ -95,11 +89,6 @@ module _ (w n : ℕ) (ws L : List ℕ) where
       → same (times (rows w (n - j) (drop a ws)) L) (units (2 ^ j) (n - j)) ≡ all → false ≡ all
   same-not j a r all h er f inv =
       ap (λ (x : Bool). x && same (times (rows w (n - (j + 1)) (drop (a + w) ws)) L) (units (2 ^ (j + 1)) (n - (j + 1)))) (sym f ∙ er) ∙ sym (rows-same j a (a + w) h refl) ∙ inv
-
-  pub same-end : (j a : ℕ) (all : Bool) → n ≤ j → same (times (rows w (n - j) (drop a ws)) L) (units (2 ^ j) (n - j)) ≡ all → true ≡ all
-  same-end j a all h inv =
-      let z : 0 ≡ n - j = omega arith in
-      ap (λ (k : ℕ). same (times (rows w k (drop a ws)) L) (units (2 ^ j) k)) z ∙ inv
 
 -- a row that a call looks at alone
 pub row-is : (w n a layer j : ℕ) (ws : List ℕ) (r : Bool) → a + w ≤ length ws
@@ -156,8 +145,3 @@ module _ (p : Params) (ws : List ℕ) where
       → firstWrong (p .n) (i + 1) (inversesLeft p ws i) (layersLeft p ws i) ≡ all → firstWrong (p .n) (i + 1 + 1) (inversesLeft p ws (i + 1)) (layersLeft p ws (i + 1)) ≡ all
   wrong-more i r all h e t inv =
       ap (λ (b : Bool). cond b (firstWrong (p .n) (i + 1 + 1) (inversesLeft p ws (i + 1)) (layersLeft p ws (i + 1))) (Some (i + 1))) (sym t ∙ e) ∙ sym (wrong-open i h) ∙ inv
-
-  pub wrong-end : (i : ℕ) (all : Option ℕ) → p .r ≤ i → firstWrong (p .n) (i + 1) (inversesLeft p ws i) (layersLeft p ws i) ≡ all → None ≡ all
-  wrong-end i all h inv =
-      let z : 0 ≡ p .r - i = omega arith in
-      ap (λ (k : ℕ). firstWrong (p .n) (i + 1) (matricesIn (blockWords p) (p .n) k (drop (placesOf p i .inverse) ws)) (layersLeft p ws i)) z ∙ inv

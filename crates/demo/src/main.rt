@@ -1,7 +1,11 @@
-// A demonstration: reads a set file from standard input, opens the set, encrypts a block, decrypts it again, and prints each step.
+// A demonstration: reads a set file from standard input, opens the set, encrypts a block, decrypts it again, and prints each step; then it draws a
+// set of its own from the Grain source and does the same with that.
 use bits::refusal::Fault;
 use cipher::instance::Instance;
 use cipher::params::Params;
+use drawing::drawer::draw;
+use drawing::grain::GrainBits;
+use drawing::grain::GrainSource;
 use files::reading::read;
 use input::read_front;
 use std::error::AnyError;
@@ -66,9 +70,33 @@ fn show_set(rt: &LibcRuntime, file: &[u8]) -> io::Result<()> {
     }
 }
 
+// Draws a set for one sitting: small enough to be drawn at once.
+fn show_drawn(rt: &LibcRuntime) -> io::Result<()> {
+    let params = Params {
+        n: 24,
+        k: 24,
+        m: 5,
+        r: 4,
+    };
+    let mut words = [0u64; SET_WORDS];
+    let mut source = GrainSource::new();
+    match draw(params, &mut source, &mut words) {
+        Ok(taken) => {
+            println!(
+                rt,
+                "drawn: {} block bits, {} key bits, {} triples, {} rounds, from {} bits",
+                params.n, params.k, params.m, params.r, taken
+            )?;
+            show_opened(rt, params, &words)
+        }
+        Err(fault) => print_refusal(rt, fault),
+    }
+}
+
 fn main(rt: LibcRuntime) -> Result<(), AnyError> {
     let mut buffer = [0u8; MOST_BYTES];
     let got = read_front(&mut rt.stdin(), &mut buffer)?;
     show_set(&rt, &buffer[..got])?;
+    show_drawn(&rt)?;
     Ok(())
 }

@@ -1,9 +1,8 @@
 use Prim.Native.Nat.{_<_, _^_}
-use mathlib.Core.Path.{_≡_, sym, _∙_}
 use native.Mathlib.Omega.{arith}
 use Rattle.bits.specs.Gf2.{dot, value}
 use Rattle.bits.proofs.Products.{dot-below}
-use Rattle.bits.proofs.Vectors.{times-none, times-one}
+use Rattle.bits.proofs.Vectors.{times-none}
 use Rattle.cipher.proofs.inverse.add_picked.Needs as need
 
 pub returns-else-bit-eq1 : need.returns-else-bit-eq1

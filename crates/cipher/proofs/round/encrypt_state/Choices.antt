@@ -1,8 +1,6 @@
 use Prim.Native.Nat.{_-_}
 use mathlib.Core.Path.{_≡_}
-use lib.Bits.{bitXor}
 use Rattle.bits.specs.Gf2.{value}
-use Rattle.cipher.specs.Instances.{setIn}
 use Rattle.cipher.specs.LowMC.{rounds}
 use Rattle.cipher.proofs.Passes.{constantsLeft, keysLeft, layersLeft}
 use Rattle.cipher.proofs.round.encrypt_state.Given as given

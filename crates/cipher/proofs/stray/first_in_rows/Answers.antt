@@ -1,9 +1,7 @@
-use Prim.Native.Nat.{ℕ, _+_, _-_, _*_, _<_, _≤_}
-use mathlib.Core.Path.{_≡_, ap, sym, _∙_}
+use Prim.Native.Nat.{_+_, _-_, _*_, _≤_}
 use native.Mathlib.Omega.{arith}
 use lib.ListN.{length}
 use Rattle.bits.proofs.Vectors.{row-ends}
-use Rattle.cipher.specs.Instances.{rowLimits}
 use Rattle.cipher.proofs.Passes.{next}
 use Rattle.cipher.proofs.Strays.{row-inside, rows-end, rows-here, rows-more}
 use Rattle.cipher.proofs.stray.first_in_rows.Needs as need

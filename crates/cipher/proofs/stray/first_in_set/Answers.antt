@@ -1,4 +1,4 @@
-use mathlib.Core.Path.{refl, sym, _∙_}
+use mathlib.Core.Path.{refl}
 use Rattle.cipher.proofs.Strays.{set-answer}
 use Rattle.cipher.proofs.stray.first_in_set.Needs as need
 

@@ -1,7 +1,7 @@
 use Prim.Native.Nat.{_-_}
-use mathlib.Core.Path.{_≡_, ap, sym, _∙_}
+use mathlib.Core.Path.{_≡_, sym, _∙_}
 use native.Mathlib.Omega.{arith}
-use Rattle.cipher.proofs.Strays.{stray-end, stray-here, stray-more}
+use Rattle.cipher.proofs.Strays.{stray-here, stray-more}
 use Rattle.cipher.proofs.stray.first_stray.Needs as need
 
 pub returns-then-strays : need.returns-then-strays

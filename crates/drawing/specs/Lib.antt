@@ -1,0 +1,5 @@
+pub mod Streams
+pub mod Grain
+pub mod Digits
+pub mod Drawing
+pub mod Places
