@@ -1,0 +1,5 @@
+use mathlib.Core.Path.{refl}
+use Rattle.engines.proofs.share.worked_example_stands.Needs as need
+
+pub returns : need.returns
+returns c = refl
