@@ -1,4 +1,5 @@
-// A second implementation, written from docs/ alone and sharing no code with crates/: vectors of bool, plain loops, the standard library.
+// A second implementation of the rules in docs/, sharing no code with crates/: vectors of bool, plain loops, the standard library. It has the same
+// authors as crates/, so a rule that both misread would not show here.
 // It reads one case a line from standard input and prints one line a case; the programs `report` and `oracle` of crates/ print the same.
 use std::io::{self, BufRead, Write};
 
