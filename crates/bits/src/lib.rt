@@ -1,3 +1,5 @@
+#![tactic(auto)]
+
 pub mod elimination;
 pub mod laws;
 pub mod matrix;

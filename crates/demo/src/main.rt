@@ -1,5 +1,6 @@
 // A demonstration: reads a set file from standard input, opens the set, encrypts a block, decrypts it again, and prints each step; then it draws a
 // set of its own from the Grain source and does the same with that; then two towns count the readers that they have in common.
+#![tactic(auto)]
 mod towns;
 
 use bits::refusal::Fault;

@@ -1,4 +1,5 @@
 // Drawing sets from a source of bits.
+#![tactic(auto)]
 pub mod drawer;
 pub mod grain;
 pub mod source;

@@ -1,3 +1,4 @@
+#![tactic(auto)]
 mod layers;
 pub mod reader;
 pub mod reading;

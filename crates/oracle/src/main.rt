@@ -8,6 +8,7 @@
 // refusal; what the source gives when it is asked once more, or `-` where it is dry; and all words that were lent.
 //
 // What is no case gets the answer `NO 0 0`.
+#![tactic(auto)]
 mod blocks;
 mod drawn;
 
