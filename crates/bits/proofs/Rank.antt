@@ -1,9 +1,9 @@
 -- Sums of rows, and what taking one row out of the others keeps.
-use Rattle.std.proofs.Common.{◌≡◌, ℕ, zero, suc, ◌+◌, ◌*◌, ◌/◌, ◌%◌, ◌^◌, ◌<◌, min, List, [], ◌∷◌, map, length, sym, refl, ap, ◌∙◌, subst, ap₂, inl, inr, add_comm, one-mul, mul_zero, zero-mul, div-one, add-one, arith, pow_pos}
+use Rattle.std.proofs.Common.{◌≡◌, ℕ, zero, suc, ◌+◌, ◌*◌, ◌/◌, ◌%◌, ◌^◌, ◌<◌, min, List, [], ◌∷◌, map, length, sym, refl, ap, ◌∙◌, subst, ap₂, inl, inr, add_comm, one-mul, mul-zero, zero-mul, div-one, add-one, arith, pow_pos}
 use Rattle.std.proofs.lemmas.Nat.{shr-shr}
 use lib.Count.{count_trailing_zeros, under}
 use lib.Bits.{bit_xor, xor_self, xor_zero_r, xor_assoc, xor_comm, xor_lt}
-use lib.ListN.{length_map}
+use lib.ListN.{length-map}
 use Rattle.bits.specs.Gf2.{Below, Collapses, Independent, Inverse, comb, dot, inverse_of, mul}
 use Rattle.bits.specs.Gauss.{clear}
 use Rattle.bits.proofs.Products.{pow_step, dot_step, dot_below, dot_comm, dot_zero_l, dot_zero_r, dot_xor, dot_xor_r, xor_low, xor_half}
@@ -103,7 +103,7 @@ pub cleared_on : (p r : ℕ) (rs : List ℕ) → Independent (r ∷ rs) → Inde
 unfolding clear
 cleared_on p r rs i z h e =
     let c : ℕ = dot p (comb rs z) in
-    let l : z < 2 ^ length rs = subst (λ (k : ℕ). z < 2 ^ k) (length_map rs (clear p r)) h in
+    let l : z < 2 ^ length rs = subst (λ (k : ℕ). z < 2 ^ k) (length-map rs (clear p r)) h in
     let b : c < 2 = dot_below p (comb rs z) in
     let m : (c + 2 * z) % 2 ≡ c = omega arith in
     let d : (c + 2 * z) / 2 ≡ z = omega arith in
@@ -118,8 +118,8 @@ cleared_back p r rs o i y h e =
     let lin : Linear (clear p r) = clear_linear p r in
     let zer : comb (map (clear p r) rs) (y / 2) ≡ 0 =
     comb_map (clear p r) lin rs (y / 2) ∙ ap (clear p r) (sym same) ∙ linear_scale (clear p r) lin (y % 2) r (omega arith)
-    ∙ ap (λ (q : ℕ). y % 2 * q) (clear_self p r o) ∙ mul_zero (y % 2) in
-    let hi : y / 2 ≡ 0 = i (y / 2) (subst (λ (k : ℕ). y / 2 < 2 ^ k) (sym (length_map rs (clear p r))) (omega (arith, pow_step (length rs)))) zer in
+    ∙ ap (λ (q : ℕ). y % 2 * q) (clear_self p r o) ∙ mul-zero (y % 2) in
+    let hi : y / 2 ≡ 0 = i (y / 2) (subst (λ (k : ℕ). y / 2 < 2 ^ k) (sym (length-map rs (clear p r))) (omega (arith, pow_step (length rs)))) zer in
     let none : y % 2 * r ≡ 0 = same ∙ ap (comb rs) hi ∙ comb_zero rs in
     let bit : min (y % 2) (dot r p) ≡ 0 = sym (dot_scale (y % 2) r p (omega arith)) ∙ ap (λ (q : ℕ). dot q p) none ∙ dot_zero_l p in
     omega (arith, dot_comm p r)

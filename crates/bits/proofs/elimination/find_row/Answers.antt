@@ -6,11 +6,11 @@ use Rattle.bits.specs.Gauss.{row_at}
 use Rattle.bits.proofs.Gauss.{missing_more}
 use Rattle.bits.proofs.elimination.find_row.Goals as goal
 
-pub offset-bounds-work-start : goal.offset-bounds-work-start
-offset-bounds-work-start c = omega (arith, row_ends c.loop-k.k c.args.n c.args.width (omega arith))
+pub offset_bounds-work-start : goal.offset_bounds-work-start
+offset_bounds-work-start c = omega (arith, row_ends c.loop-k.k c.args.n c.args.width (omega arith))
 
-pub slice-bounds-bit-end : goal.slice-bounds-bit-end
-slice-bounds-bit-end c = omega (arith, row_ends c.loop-k.k c.args.n c.args.width (omega arith))
+pub slice_bounds-bit-end : goal.slice_bounds-bit-end
+slice_bounds-bit-end c = omega (arith, row_ends c.loop-k.k c.args.n c.args.width (omega arith))
 
 pub loop-k-preserved : goal.loop-k-preserved
 loop-k-preserved c =

@@ -2,14 +2,14 @@ use Rattle.std.proofs.Common.{◌*◌, ◌≤◌, length, sym, mul-le-mul, arith
 use Rattle.std.proofs.lemmas.List.{length-take-le}
 use Rattle.bits.proofs.elimination.invert.Goals as goal
 
-pub slice-bounds-work-end : goal.slice-bounds-work-end
-slice-bounds-work-end c = let twice : 2 * length c.args.witness.now ≤ 8 = omega arith in mul-le-mul c.requires.many twice
+pub slice_bounds-work-end : goal.slice_bounds-work-end
+slice_bounds-work-end c = let twice : 2 * length c.args.witness.now ≤ 8 = omega arith in mul-le-mul c.requires.many twice
 
-pub slice-bounds-invert-in-end : goal.slice-bounds-invert-in-end
-slice-bounds-invert-in-end c = let twice : 2 * length c.args.witness.now ≤ 8 = omega arith in sym (length-take-le _ _ (mul-le-mul c.requires.many twice))
+pub slice_bounds-invert_in-end : goal.slice_bounds-invert_in-end
+slice_bounds-invert_in-end c = let twice : 2 * length c.args.witness.now ≤ 8 = omega arith in sym (length-take-le _ _ (mul-le-mul c.requires.many twice))
 
-pub invert-in-requires : goal.invert-in-requires
-invert-in-requires c =
+pub invert_in-requires : goal.invert_in-requires
+invert_in-requires c =
     let twice : 2 * length c.args.witness.now ≤ 8 = omega arith in
     record {
       size = c.requires.size;

@@ -3,8 +3,8 @@ use Rattle.bits.specs.Gf2.{mul, rows}
 use Rattle.bits.proofs.Ends.{collapsed, done, inverted}
 use Rattle.bits.proofs.elimination.invert_in.Goals as goal
 
-pub column-above-requires : goal.column-above-requires
-column-above-requires c =
+pub column_above-requires : goal.column_above-requires
+column_above-requires c =
     let v = length c.eliminate.new.row in
     let e : v ≡ 2 * length c.args.witness.now = omega arith in
     let h : c.in-Some.c < c.args.n = c.in-Some.ensures.stop.0 in
@@ -13,10 +13,10 @@ column-above-requires c =
 
 pub returns-in-None : goal.returns-in-None
 returns-in-None c =
-    inverted (length c.args.witness.now) c.args.n c.args.layer.now c.write-out.new.out c.args.witness.now (omega arith) c.fitting.ensures
+    inverted (length c.args.witness.now) c.args.n c.args.layer.now c.write_out.new.out c.args.witness.now (omega arith) c.fitting.ensures
     (done (length c.args.witness.now) c.args.n (length c.args.row.now) c.args.layer.now c.augment.new.work c.eliminate.new.work
-    c.requires.fits (λ i. omega (arith, c.type-inv.layer i)) c.requires.size c.requires.row c.augment.ensures c.in-None.ensures.carried
-    c.in-None.ensures.stop c.write-out.new.out c.write-out.ensures)
+    c.requires.fits (λ i. omega (arith, c.type_inv.layer i)) c.requires.size c.requires.row c.augment.ensures c.in-None.ensures.carried
+    c.in-None.ensures.stop c.write_out.new.out c.write_out.ensures)
 
 pub returns-in-Some : goal.returns-in-Some
 returns-in-Some c =
@@ -24,7 +24,7 @@ returns-in-Some c =
     let e : length c.eliminate.new.row ≡ length c.args.row.now = omega arith in
     record {
       witness = collapsed (length c.args.witness.now) c.args.n (length c.args.row.now) c.args.layer.now c.augment.new.work c.eliminate.new.work
-          c.requires.fits (λ i. omega (arith, c.type-inv.layer i)) c.requires.size c.requires.row c.augment.ensures c.in-Some.ensures.carried
-          c.in-Some.c _ s.0 s.1 s.2 (c.column-above.ensures ∙ ap (λ k. mul (rows k c.in-Some.c c.eliminate.new.work) (2 ^ c.in-Some.c) + 2 ^ c.in-Some.c) e);
+          c.requires.fits (λ i. omega (arith, c.type_inv.layer i)) c.requires.size c.requires.row c.augment.ensures c.in-Some.ensures.carried
+          c.in-Some.c _ s.0 s.1 s.2 (c.column_above.ensures ∙ ap (λ k. mul (rows k c.in-Some.c c.eliminate.new.work) (2 ^ c.in-Some.c) + 2 ^ c.in-Some.c) e);
       kept = refl;
     }

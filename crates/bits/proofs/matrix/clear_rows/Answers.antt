@@ -4,11 +4,11 @@ use Rattle.bits.specs.Gauss.{clear}
 use Rattle.bits.proofs.Vectors.{row_ends, clear_step}
 use Rattle.bits.proofs.matrix.clear_rows.Goals as goal
 
-pub offset-bounds-rest-start : goal.offset-bounds-rest-start
-offset-bounds-rest-start c = omega (arith, row_ends c.loop-i.i c.args.count (length c.args.row.now) (omega arith))
+pub offset_bounds-rest-start : goal.offset_bounds-rest-start
+offset_bounds-rest-start c = omega (arith, row_ends c.loop-i.i c.args.count (length c.args.row.now) (omega arith))
 
-pub slice-bounds-clear-row-end : goal.slice-bounds-clear-row-end
-slice-bounds-clear-row-end c = omega (arith, row_ends c.loop-i.i c.args.count (length c.args.row.now) (omega arith))
+pub slice_bounds-clear_row-end : goal.slice_bounds-clear_row-end
+slice_bounds-clear_row-end c = omega (arith, row_ends c.loop-i.i c.args.count (length c.args.row.now) (omega arith))
 
 pub loop-i-preserved : goal.loop-i-preserved
 loop-i-preserved c =
@@ -17,5 +17,5 @@ loop-i-preserved c =
     let t = clear (2 ^ c.args.j) (value c.args.row.now) in
     let e = row_ends i c.args.count w (omega arith) in
     let n : i * w + w - i * w ≡ w = omega arith in
-    let v : value c.clear-row.new.s ≡ t (value (take w (drop (i * w) c.loop-i.rest))) = c.clear-row.ensures ∙ ap (λ k. t (value (take k (drop (i * w) c.loop-i.rest)))) n in
-    rw n (clear_step t w i c.loop-i.rest c.args.rest.now c.clear-row.new.s (omega arith) (omega (arith, simp (length-take, length-drop) at c.clear-row.auto.s)) v c.loop-i.invariant.0 c.loop-i.invariant.1)
+    let v : value c.clear_row.new.s ≡ t (value (take w (drop (i * w) c.loop-i.rest))) = c.clear_row.ensures ∙ ap (λ k. t (value (take k (drop (i * w) c.loop-i.rest)))) n in
+    rw n (clear_step t w i c.loop-i.rest c.args.rest.now c.clear_row.new.s (omega arith) (omega (arith, simp (length-take, length-drop) at c.clear_row.auto.s)) v c.loop-i.invariant.0 c.loop-i.invariant.1)

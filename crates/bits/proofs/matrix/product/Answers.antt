@@ -7,17 +7,17 @@ use Rattle.bits.proofs.matrix.product.Goals as goal
 pub loop-i-init : goal.loop-i-init
 loop-i-init c = value_cleared c.fill.new.self (λ k h. c.fill.ensures.clones k 0 (omega (arith, h, c.fill.ensures.len)) refl)
 
-pub overflow-add-start : goal.overflow-add-start
-overflow-add-start c = omega (arith, row_ends c.loop-i.i c.args.count (length c.args.v.now) (omega arith))
+pub overflow_add-start : goal.overflow_add-start
+overflow_add-start c = omega (arith, row_ends c.loop-i.i c.args.count (length c.args.v.now) (omega arith))
 
-pub overflow-add-start-in-loop-i : goal.overflow-add-start-in-loop-i
-overflow-add-start-in-loop-i c = omega (arith, row_ends c.loop-i.i c.args.count (length c.args.v.now) (omega arith))
+pub overflow_add-start-in-loop-i : goal.overflow_add-start-in-loop-i
+overflow_add-start-in-loop-i c = omega (arith, row_ends c.loop-i.i c.args.count (length c.args.v.now) (omega arith))
 
-pub offset-bounds-words-start : goal.offset-bounds-words-start
-offset-bounds-words-start c = omega (arith, row_ends c.loop-i.i c.args.count (length c.args.v.now) (omega arith))
+pub offset_bounds-words-start : goal.offset_bounds-words-start
+offset_bounds-words-start c = omega (arith, row_ends c.loop-i.i c.args.count (length c.args.v.now) (omega arith))
 
-pub slice-bounds-parity-end : goal.slice-bounds-parity-end
-slice-bounds-parity-end c = omega (arith, row_ends c.loop-i.i c.args.count (length c.args.v.now) (omega arith))
+pub slice_bounds-parity-end : goal.slice_bounds-parity-end
+slice_bounds-parity-end c = omega (arith, row_ends c.loop-i.i c.args.count (length c.args.v.now) (omega arith))
 
 pub loop-i-preserved : goal.loop-i-preserved
 loop-i-preserved c =

@@ -11,8 +11,8 @@ loop-i-init c = (sym (xor_zero_r (value c.args.a.now)), c.fitting.ensures)
 pub loop-i-preserved : goal.loop-i-preserved
 loop-i-preserved c =
     let i = c.loop-i.i in (
-      add_more c.loop-i.a c.args.b.now i (value c.args.a.now) (omega arith) (omega arith) c.loop-i.invariant.1 (λ i. omega (arith, c.type-inv.b i)) c.loop-i.invariant.0,
-      words_set c.loop-i.a i _ c.loop-i.invariant.1 (xor_lt 64 (get_or c.loop-i.a i 0) (get_or c.args.b.now i 0) (c.loop-i.invariant.1 i) (omega (arith, c.type-inv.b i))),
+      add_more c.loop-i.a c.args.b.now i (value c.args.a.now) (omega arith) (omega arith) c.loop-i.invariant.1 (λ i. omega (arith, c.type_inv.b i)) c.loop-i.invariant.0,
+      words_set c.loop-i.a i _ c.loop-i.invariant.1 (xor_lt 64 (get_or c.loop-i.a i 0) (get_or c.args.b.now i 0) (c.loop-i.invariant.1 i) (omega (arith, c.type_inv.b i))),
     )
 
 pub returns : goal.returns

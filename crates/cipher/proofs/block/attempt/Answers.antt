@@ -11,16 +11,16 @@ returns-in-err-check-call c =
     let key = c.args.key.now in
     let block = c.args.block.now in
     let o = i.params in
-    let r = c.from-residual.result in
-    let x = err_from_is_err_and r c.from-residual.ensures.1 in
+    let r = c.from_residual.result in
+    let x = err_from_is_err_and r c.from_residual.ensures.1 in
     record {
       answer = refusal_held o c.in-Some.p ws c.in-Some.is r x.0 c.in-err-check-call.field-0.0 key block (length c.args.work.now) x.1 x.2 (c.in-err-check-call.ensures ws);
       block = block_refused (along c.args.way) o ws key block r x.0 x.1;
       back = back_refused (against c.args.way) o ws key block block r x.0 x.1;
     }
 
-pub run-block-requires : goal.run-block-requires
-run-block-requires c =
+pub run_block-requires : goal.run_block-requires
+run_block-requires c =
     let i = c.args.held.now in
     let ws = i.words.now in
     let a = accepted c.in-Some.p ws c.args.key.now c.args.block.now (length c.args.work.now) (c.in-ok-check-call.ensures ws) in
@@ -36,6 +36,6 @@ returns-in-Some c =
     let a = accepted p ws key block (length c.args.work.now) (c.in-ok-check-call.ensures ws) in
     record {
       answer = answer_held i.params p ws c.in-Some.is _ key block (length c.args.work.now) (c.in-ok-check-call.ensures ws);
-      block = block_held i.params p ws c.in-Some.is (along c.args.way) key block c.run-block.new.block c.run-block.ensures;
-      back = back_held i.params p ws c.in-Some.is c.args.way key block c.run-block.new.block (held_true i.params p ws c.in-Some.is i.passed) a.small c.run-block.ensures;
+      block = block_held i.params p ws c.in-Some.is (along c.args.way) key block c.run_block.new.block c.run_block.ensures;
+      back = back_held i.params p ws c.in-Some.is c.args.way key block c.run_block.new.block (held_true i.params p ws c.in-Some.is i.passed) a.small c.run_block.ensures;
     }

@@ -10,23 +10,23 @@ loop-i-init c =
     comb_start (length c.args.sum.now) c.args.count c.args.at (value c.args.pick.now) (value c.fill.new.self) c.args.words.now
     (value_cleared c.fill.new.self (λ k h. c.fill.ensures.clones k 0 (omega (arith, h, c.fill.ensures.len)) refl))
 
-pub overflow-add-start : goal.overflow-add-start
-overflow-add-start c = omega (arith, row_ends c.loop-i.i c.args.count (length c.args.sum.now) (omega arith))
+pub overflow_add-start : goal.overflow_add-start
+overflow_add-start c = omega (arith, row_ends c.loop-i.i c.args.count (length c.args.sum.now) (omega arith))
 
-pub overflow-add-start-in-loop-i : goal.overflow-add-start-in-loop-i
-overflow-add-start-in-loop-i c = omega (arith, row_ends c.loop-i.i c.args.count (length c.args.sum.now) (omega arith))
+pub overflow_add-start-in-loop-i : goal.overflow_add-start-in-loop-i
+overflow_add-start-in-loop-i c = omega (arith, row_ends c.loop-i.i c.args.count (length c.args.sum.now) (omega arith))
 
-pub offset-bounds-words-start : goal.offset-bounds-words-start
-offset-bounds-words-start c = omega (arith, row_ends c.loop-i.i c.args.count (length c.args.sum.now) (omega arith))
+pub offset_bounds-words-start : goal.offset_bounds-words-start
+offset_bounds-words-start c = omega (arith, row_ends c.loop-i.i c.args.count (length c.args.sum.now) (omega arith))
 
-pub slice-bounds-add-picked-end : goal.slice-bounds-add-picked-end
-slice-bounds-add-picked-end c = omega (arith, row_ends c.loop-i.i c.args.count (length c.args.sum.now) (omega arith))
+pub slice_bounds-add_picked-end : goal.slice_bounds-add_picked-end
+slice_bounds-add_picked-end c = omega (arith, row_ends c.loop-i.i c.args.count (length c.args.sum.now) (omega arith))
 
 pub loop-i-preserved : goal.loop-i-preserved
 loop-i-preserved c =
     let w = length c.args.sum.now in
-    comb_more w c.args.count c.loop-i.i (c.args.at + c.loop-i.i * w) _ (value c.args.pick.now) (value c.loop-i.sum) (value c.add-picked.new.sum) _ c.args.words.now
-    (omega arith) (next c.args.at c.loop-i.i w) c.add-picked.ensures c.loop-i.invariant
+    comb_more w c.args.count c.loop-i.i (c.args.at + c.loop-i.i * w) _ (value c.args.pick.now) (value c.loop-i.sum) (value c.add_picked.new.sum) _ c.args.words.now
+    (omega arith) (next c.args.at c.loop-i.i w) c.add_picked.ensures c.loop-i.invariant
 
 pub returns : goal.returns
 returns c =

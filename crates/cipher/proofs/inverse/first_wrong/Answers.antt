@@ -9,8 +9,8 @@ loop-i-init c = wrong_start c.args.p c.args.words.now
 
 pub undoes-requires : goal.undoes-requires
 undoes-requires c =
-    let f = roomy c.args.p c.requires.limits c.loop-i.i (omega arith) c.at-round-at.result c.block-words-w.result (key_words_of c.args.p) (length c.args.words.now)
-    c.at-round-at.ensures c.block-words-w.ensures refl c.requires.room in
+    let f = roomy c.args.p c.requires.limits c.loop-i.i (omega arith) c.at_round-at.result c.block_words-w.result (key_words_of c.args.p) (length c.args.words.now)
+    c.at_round-at.ensures c.block_words-w.ensures refl c.requires.room in
     let s = small c.args.p c.requires.limits in
     record { layers = f.layer; inverses = f.inverse; wide = f.wide; small = omega (arith, s.block) }
 
@@ -19,7 +19,7 @@ returns-then-not-undoes c =
     let p = c.args.p in
     let ws = c.args.words.now in
     wrong_here p ws c.loop-i.i c.undoes.result _ (omega arith)
-    (same_at p ws c.loop-i.i c.block-words-w.result c.at-round-at.result c.undoes.result c.block-words-w.ensures c.at-round-at.ensures c.undoes.ensures)
+    (same_at p ws c.loop-i.i c.block_words-w.result c.at_round-at.result c.undoes.result c.block_words-w.ensures c.at_round-at.ensures c.undoes.ensures)
     c.if-not-undoes.true c.loop-i.invariant
 
 pub loop-i-preserved : goal.loop-i-preserved
@@ -27,5 +27,5 @@ loop-i-preserved c =
     let p = c.args.p in
     let ws = c.args.words.now in
     wrong_more p ws c.loop-i.i c.undoes.result _ (omega arith)
-    (same_at p ws c.loop-i.i c.block-words-w.result c.at-round-at.result c.undoes.result c.block-words-w.ensures c.at-round-at.ensures c.undoes.ensures)
+    (same_at p ws c.loop-i.i c.block_words-w.result c.at_round-at.result c.undoes.result c.block_words-w.ensures c.at_round-at.ensures c.undoes.ensures)
     c.if-not-undoes.false c.loop-i.invariant

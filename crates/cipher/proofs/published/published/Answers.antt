@@ -4,4 +4,4 @@ use Rattle.cipher.proofs.Rule.{row_ruled}
 use Rattle.cipher.proofs.published.published.Goals as goal
 
 pub returns : goal.returns
-returns c = record { pinned = c.look-up.ensures; ruled = subst Ruled (sym c.look-up.ensures) (row_ruled c.args.row) }
+returns c = record { pinned = c.look_up.ensures; ruled = subst Ruled (sym c.look_up.ensures) (row_ruled c.args.row) }

@@ -14,4 +14,4 @@ returns c =
     (value c.product.new.out) (value c.add.new.a) (value c.add-2.new.a) (value c.product-2.new.out) (value c.unsubstitute.new.s) ws M
     c.product.ensures c.add.ensures c.add-2.ensures
     (c.product-2.ensures ∙ ap (λ i. mul (rows i c.args.n (drop at.inverse ws)) (value c.add-2.new.a)) (c.add-2.auto.a ∙ c.add.auto.a))
-    (c.unsubstitute.ensures ∙ ap (λ xs. unsubstitution c.args.m (value xs)) c.copy-from-slice.ensures.after)
+    (c.unsubstitute.ensures ∙ ap (λ xs. unsubstitution c.args.m (value xs)) c.copy_from_slice.ensures.after)

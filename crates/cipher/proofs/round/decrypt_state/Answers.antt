@@ -9,8 +9,8 @@ use Rattle.cipher.proofs.round.decrypt_state.Goals as goal
 pub backward-requires : goal.backward-requires
 backward-requires c =
     let w : length c.loop-i.state ≡ block_words_of c.args.p = omega arith in
-    let f = roomy c.args.p c.requires.limits (c.args.p.r - 1 - c.loop-i.i) (omega arith) c.at-round.result (length c.loop-i.state) (length c.args.key.now) (length c.args.words.now)
-    c.at-round.ensures w c.requires.keyed c.requires.room in
+    let f = roomy c.args.p c.requires.limits (c.args.p.r - 1 - c.loop-i.i) (omega arith) c.at_round.result (length c.loop-i.state) (length c.args.key.now) (length c.args.words.now)
+    c.at_round.ensures w c.requires.keyed c.requires.room in
     record { same = omega arith; inverse = f.inverse; constant = f.constant; keyed = f.key; room = f.wide; triples = c.requires.limits.m_most; small = c.requires.limits.n_most }
 
 pub loop-i-preserved : goal.loop-i-preserved
@@ -21,7 +21,7 @@ loop-i-preserved c =
     let s = value c.loop-i.state in
     let w : length c.loop-i.state ≡ block_words_of p = omega arith in
     unrounds_more p ws c.loop-i.i p.m key s (value c.backward.new.state) _ (omega arith) c.requires.inverses
-    (unround_at p ws (p.r - 1 - c.loop-i.i) (length c.loop-i.state) (length c.args.key.now) c.at-round.result w c.requires.keyed c.at-round.ensures p.m key s (value c.backward.new.state)
+    (unround_at p ws (p.r - 1 - c.loop-i.i) (length c.loop-i.state) (length c.args.key.now) c.at_round.result w c.requires.keyed c.at_round.ensures p.m key s (value c.backward.new.state)
     c.backward.ensures)
     c.loop-i.invariant
 
@@ -31,4 +31,4 @@ returns c =
     let ws = c.args.words.now in
     let key = value c.args.key.now in
     decrypted p ws c.loop-i.i key (value c.loop-i.state) (value c.add.new.a) (value c.args.state.now) (omega arith) c.loop-i.invariant
-    (c.add.ensures ∙ ap (bit_xor (value c.loop-i.state)) (first_at p ws (length c.args.key.now) c.keys-from.result key (value c.product.new.out) c.requires.keyed c.keys-from.ensures c.product.ensures))
+    (c.add.ensures ∙ ap (bit_xor (value c.loop-i.state)) (first_at p ws (length c.args.key.now) c.keys_from.result key (value c.product.new.out) c.requires.keyed c.keys_from.ensures c.product.ensures))

@@ -4,20 +4,20 @@ use Rattle.cipher.proofs.Passes.{next}
 use Rattle.cipher.proofs.Strays.{row_inside, rows_end, rows_here, rows_more}
 use Rattle.cipher.proofs.stray.first_in_rows.Goals as goal
 
-pub overflow-add-start : goal.overflow-add-start
-overflow-add-start c = omega (arith, row_ends c.loop-j.j c.args.count c.args.w (omega arith))
+pub overflow_add-start : goal.overflow_add-start
+overflow_add-start c = omega (arith, row_ends c.loop-j.j c.args.count c.args.w (omega arith))
 
-pub overflow-add-start-in-loop-j : goal.overflow-add-start-in-loop-j
-overflow-add-start-in-loop-j c = omega (arith, row_ends c.loop-j.j c.args.count c.args.w (omega arith))
+pub overflow_add-start-in-loop-j : goal.overflow_add-start-in-loop-j
+overflow_add-start-in-loop-j c = omega (arith, row_ends c.loop-j.j c.args.count c.args.w (omega arith))
 
-pub offset-bounds-words-start : goal.offset-bounds-words-start
-offset-bounds-words-start c = omega (arith, row_ends c.loop-j.j c.args.count c.args.w (omega arith))
+pub offset_bounds-words-start : goal.offset_bounds-words-start
+offset_bounds-words-start c = omega (arith, row_ends c.loop-j.j c.args.count c.args.w (omega arith))
 
-pub slice-bounds-first-stray-end : goal.slice-bounds-first-stray-end
-slice-bounds-first-stray-end c = omega (arith, row_ends c.loop-j.j c.args.count c.args.w (omega arith))
+pub slice_bounds-first_stray-end : goal.slice_bounds-first_stray-end
+slice_bounds-first_stray-end c = omega (arith, row_ends c.loop-j.j c.args.count c.args.w (omega arith))
 
-pub overflow-add-result : goal.overflow-add-result
-overflow-add-result c =
+pub overflow_add-result : goal.overflow_add-result
+overflow_add-result c =
     let a = c.args.at + c.loop-j.j * c.args.w in
     let ends = row_ends c.loop-j.j c.args.count c.args.w (omega arith) in
     let room : a + c.args.w ≤ length c.args.words.now = omega arith in
@@ -34,7 +34,7 @@ loop-j-preserved c =
     let a = c.args.at + c.loop-j.j * c.args.w in
     let ends = row_ends c.loop-j.j c.args.count c.args.w (omega arith) in
     rows_more c.args.w c.args.bits a c.args.words.now (omega arith) c.loop-j.j c.args.count _ _ (omega arith) (next c.args.at c.loop-j.j c.args.w)
-    c.in-default.ensures c.loop-j.invariant
+    c.in_default.ensures c.loop-j.invariant
 
 pub returns : goal.returns
 returns c = rows_end c.args.w c.args.bits (c.args.at + c.loop-j.j * c.args.w) c.args.words.now c.loop-j.j c.args.count _ (omega arith) c.loop-j.invariant

@@ -7,5 +7,5 @@ returns-then-strays c = stray_here c.loop-i.i c.loop-i.left c.args.words.now _ (
 
 pub loop-i-preserved : goal.loop-i-preserved
 loop-i-preserved c =
-    let e : c.saturating-sub-left.result ≡ c.loop-i.left - 64 = omega arith in
+    let e : c.saturating_sub-left.result ≡ c.loop-i.left - 64 = omega arith in
     rw e (stray_more c.loop-i.i c.loop-i.left c.args.words.now _ (omega arith) (sym c.strays.ensures ∙ c.if-strays.false) c.loop-i.invariant)
