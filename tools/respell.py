@@ -30,7 +30,7 @@ LIBRARY_WORDS = {"getD": "get_or"}
 
 # names that would fall together with another in snake case: a definition with the function that it is about, a lemma with
 # the definition that it is about, a type with one of the
-# library
+# library, or a type that has a dash
 APART = {
     "blockWords": "block_words_of",
     "keyWords": "key_words_of",
@@ -54,6 +54,7 @@ APART = {
     "set-of": "set_of_parts",
     "matrix-at": "matrix_at_is",
     "IsTrue": "IsTrueTriple",
+    "Worked-example": "WorkedExample",
 }
 
 
