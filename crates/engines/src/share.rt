@@ -155,8 +155,8 @@ impl<'a> Engine for ShareEngine<'a> {
 
     // The shares are the mask and the word hidden by it.
     fn enter(&self, word: u64, mask: u64) -> Shares
-        ensures s1_value { bit_xor result.s0 result.s1 ≡ word % 2 ^ 64 }
-        ensures s0_value { (result.s0 ≡ mask) × (result.s1 ≡ bit_xor word mask) }
+        ensures meaning { bit_xor result.s0 result.s1 ≡ word % 2 ^ 64 }
+        ensures shares { (result.s0 ≡ mask) × (result.s1 ≡ bit_xor word mask) }
     {
         Shares::of(mask, word ^ mask)
     }
@@ -167,16 +167,16 @@ impl<'a> Engine for ShareEngine<'a> {
 
     // Each side adds its own shares.
     fn add(&self, x: Shares, y: Shares) -> Shares
-        ensures s1_value { bit_xor result.s0 result.s1 ≡ bit_xor (bit_xor x.s0 x.s1) (bit_xor y.s0 y.s1) }
-        ensures s0_value { (result.s0 ≡ bit_xor x.s0 y.s0) × (result.s1 ≡ bit_xor x.s1 y.s1) }
+        ensures meaning { bit_xor result.s0 result.s1 ≡ bit_xor (bit_xor x.s0 x.s1) (bit_xor y.s0 y.s1) }
+        ensures shares { (result.s0 ≡ bit_xor x.s0 y.s0) × (result.s1 ≡ bit_xor x.s1 y.s1) }
     {
         Shares::of(x.s0 ^ y.s0, x.s1 ^ y.s1)
     }
 
     // Gate number j, from 0, spends the triple number j of the tape, which stays.
     fn gate(&mut self, x: Shares, y: Shares) -> Result<Shares, Fault>
-        ensures fact { elim result [ Ok w ↦ (bit_xor w.s0 w.s1 ≡ bit_and (bit_xor x.s0 x.s1) (bit_xor y.s0 y.s1)) × Spent self.old.account 1 self.new.account | Err f ↦ (self.new ≡ self.old) × Dry self.old.account f ] }
-        ensures fact_2 { elim result [ Ok w ↦ ((w.s0, w.s1) ≡ shares_of (x.s0, x.s1) (y.s0, y.s1) (triple_of self.old.tape.now self.old.account.done)) × (self.new.tape ≡ self.old.tape) | Err _ ↦ Unit ] }
+        ensures meaning { elim result [ Ok w ↦ (bit_xor w.s0 w.s1 ≡ bit_and (bit_xor x.s0 x.s1) (bit_xor y.s0 y.s1)) × Spent self.old.account 1 self.new.account | Err f ↦ (self.new ≡ self.old) × Dry self.old.account f ] }
+        ensures shares { elim result [ Ok w ↦ ((w.s0, w.s1) ≡ shares_of (x.s0, x.s1) (y.s0, y.s1) (triple_of self.old.tape.now self.old.account.done)) × (self.new.tape ≡ self.old.tape) | Err _ ↦ Unit ] }
     {
         let next = self.account.spend()?;
         let triple = triple_at(self.tape, self.account.done as usize);
@@ -185,7 +185,7 @@ impl<'a> Engine for ShareEngine<'a> {
     }
 
     fn grant(&mut self, g: u32) -> Result<(), Fault>
-        ensures fact { elim result [ Ok _ ↦ Granted self.old.account g self.new.account | Err f ↦ (self.new ≡ self.old) × Full self.old.account g f ] }
+        ensures granted { elim result [ Ok _ ↦ Granted self.old.account g self.new.account | Err f ↦ (self.new ≡ self.old) × Full self.old.account g f ] }
         ensures tape_unchanged { self.new.tape ≡ self.old.tape }
     {
         self.account = self.account.raise(g)?;

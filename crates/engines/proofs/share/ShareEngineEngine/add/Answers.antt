@@ -6,4 +6,4 @@ use Rattle.engines.proofs.share.ShareEngineEngine.add.Goals as goal
 pub returns : goal.returns
 returns c =
     let r = c.of.ensures in
-    (ap₂ bit_xor r.0 r.1 ∙ xor_swap c.args.x.s0 c.args.y.s0 c.args.x.s1 c.args.y.s1, r)
+    record { meaning = ap₂ bit_xor r.0 r.1 ∙ xor_swap c.args.x.s0 c.args.y.s0 c.args.x.s1 c.args.y.s1; shares = r }

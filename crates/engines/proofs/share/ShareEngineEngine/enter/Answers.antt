@@ -9,4 +9,4 @@ returns c =
     let mask = c.args.mask in
     let r = c.of.ensures in
     let w : word < 2 ^ 64 = search rules in
-    (ap₂ bit_xor r.0 r.1 ∙ xor_comm mask (bit_xor word mask) ∙ xor_cancel word mask ∙ sym (mod-eq_of_lt w), r)
+    record { meaning = ap₂ bit_xor r.0 r.1 ∙ xor_comm mask (bit_xor word mask) ∙ xor_cancel word mask ∙ sym (mod-eq_of_lt w); shares = r }
