@@ -13,29 +13,29 @@ returns-in-err-check-batch g c =
     let p = c.in-Some.p in
     let ws = c.in-Some.words.now in
     let is = c.in-Some.ensures.value in
-    let r = c.from-residual.result in
-    let x = err_from_is_err_and r c.from-residual.ensures.1 in
+    let r = c.from_residual.result in
+    let x = err_from_is_err_and r c.from_residual.ensures.1 in
     let no = x.1 ∙ ap Err x.2 in
     record {
-      answer = answer_held h p ws is c.lanes-of.result m.lanes c.args.count c.account-account.result (m.acct c.args.engine.now) c.args.blocks.now c.args.keys.now
-          (length c.args.masks.now) (length c.args.cells.now) r c.lanes-of.ensures c.account-account.ensures (no ∙ c.in-err-check-batch.ensures ws);
+      answer = answer_held h p ws is c.lanes_of.result m.lanes c.args.count c.account-account.result (m.acct c.args.engine.now) c.args.blocks.now c.args.keys.now
+          (length c.args.masks.now) (length c.args.cells.now) r c.lanes_of.ensures c.account-account.ensures (no ∙ c.in-err-check-batch.ensures ws);
       blocks = blocks_refused h p ws is r _ no (along c.args.way) c.args.count c.args.keys.now c.args.blocks.now;
       leaves = leaves_refused h p ws is r _ no m.means (m.acct c.args.engine.now) c.args.cells.now;
       stays = λ _. refl;
     }
 
-pub run-accepted-requires : goal.run-accepted-requires
-run-accepted-requires g c =
+pub run_accepted-requires : goal.run_accepted-requires
+run_accepted-requires g c =
     let m = g.E.Engine in
     let p = c.in-Some.p in
     let ws = c.in-Some.words.now in
-    let a = admitted c.lanes-of.result c.args.count p ws c.account-account.result c.args.blocks.now c.args.keys.now (length c.args.masks.now) (length c.args.cells.now)
+    let a = admitted c.lanes_of.result c.args.count p ws c.account-account.result c.args.blocks.now c.args.keys.now (length c.args.masks.now) (length c.args.cells.now)
     (c.in-ok-check-batch.ensures ws) in
     let done = ap (λ x. x.done) c.account-account.ensures in
     let granted = ap (λ x. x.granted) c.account-account.ensures in
     record {
       sound = subst Sound c.in-Some.ensures.value c.in-Some.ensures.sound;
-      lanes = omega (arith, a.few, c.lanes-of.ensures);
+      lanes = omega (arith, a.few, c.lanes_of.ensures);
       sizes = (a.sized, a.keyed);
       narrow = (a.narrow, a.key_narrow);
       masks = a.masked;
@@ -50,10 +50,10 @@ returns-in-Some g c =
     let p = c.in-Some.p in
     let ws = c.in-Some.words.now in
     let is = c.in-Some.ensures.value in
-    let e = c.run-accepted.ensures in
+    let e = c.run_accepted.ensures in
     record {
-      answer = answer_held h p ws is c.lanes-of.result m.lanes c.args.count c.account-account.result (m.acct c.args.engine.now) c.args.blocks.now c.args.keys.now
-          (length c.args.masks.now) (length c.args.cells.now) _ c.lanes-of.ensures c.account-account.ensures (c.in-ok-check-batch.ensures ws);
+      answer = answer_held h p ws is c.lanes_of.result m.lanes c.args.count c.account-account.result (m.acct c.args.engine.now) c.args.blocks.now c.args.keys.now
+          (length c.args.masks.now) (length c.args.cells.now) _ c.lanes_of.ensures c.account-account.ensures (c.in-ok-check-batch.ensures ws);
       blocks = blocks_held h p ws is (along c.args.way) c.args.count c.args.keys.now c.args.blocks.now _ e.blocks;
       leaves = leaves_held h p ws is m.means _ _ _ _ e.spent e.cells;
       stays = λ no. let z : ◌≡◌ {A = ℕ} 0 1 = cc in absurd (omega arith);

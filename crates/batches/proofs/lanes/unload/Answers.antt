@@ -6,11 +6,11 @@ use Rattle.batches.specs.Lanes.{columns}
 use Rattle.batches.proofs.Packing.{unload_more}
 use Rattle.batches.proofs.lanes.unload.Goals as goal
 
-pub offset-bounds-blocks-start : goal.offset-bounds-blocks-start
-offset-bounds-blocks-start g c = omega (arith, row_ends c.loop-j.j c.args.count c.args.w (omega arith))
+pub offset_bounds-blocks-start : goal.offset_bounds-blocks-start
+offset_bounds-blocks-start g c = omega (arith, row_ends c.loop-j.j c.args.count c.args.w (omega arith))
 
-pub slice-bounds-read-lane-end : goal.slice-bounds-read-lane-end
-slice-bounds-read-lane-end g c = omega (arith, row_ends c.loop-j.j c.args.count c.args.w (omega arith))
+pub slice_bounds-read_lane-end : goal.slice_bounds-read_lane-end
+slice_bounds-read_lane-end g c = omega (arith, row_ends c.loop-j.j c.args.count c.args.w (omega arith))
 
 pub loop-j-preserved : goal.loop-j-preserved
 loop-j-preserved g c =
@@ -19,11 +19,11 @@ loop-j-preserved g c =
     let w = c.args.w in
     let ms = map m c.args.cells.now in
     let xs = c.loop-j.blocks in
-    let new = c.read-lane.new.block in
+    let new = c.read_lane.new.block in
     let n : j * w + w - j * w ≡ w = omega arith in
     let room = row_ends j c.args.count w (omega arith) in
     ap (λ k. rows w (j + 1) (put_mid (j * w) k xs new)) n
-    ∙ unload_more w j xs new ms (omega arith) (c.read-lane.auto.block ∙ simp (length-take, length-drop) (omega arith)) c.read-lane.ensures c.loop-j.invariant
+    ∙ unload_more w j xs new ms (omega arith) (c.read_lane.auto.block ∙ simp (length-take, length-drop) (omega arith)) c.read_lane.ensures c.loop-j.invariant
 
 pub returns : goal.returns
 returns g c =

@@ -12,13 +12,13 @@ backward-requires g c =
     let p = c.args.p in
     let t = c.requires.sound in
     let i = p.r - 1 - c.loop-i.i in
-    let f = roomy p t.lawful.limits i (omega arith) c.at-round.result (block_words_of p) (key_words_of p) (length c.args.words.now) c.at-round.ensures refl refl t.room in
+    let f = roomy p t.lawful.limits i (omega arith) c.at_round.result (block_words_of p) (key_words_of p) (length c.args.words.now) c.at_round.ensures refl refl t.room in
     record {
       wires = (omega arith, omega arith, c.requires.wires.2, omega (arith, c.requires.wires.3));
       inverse = f.inverse;
       constant = f.constant;
       keyed = f.key;
-      narrow = constant_below p c.args.words.now t.lawful i (omega arith) c.at-round.result c.at-round.ensures;
+      narrow = constant_below p c.args.words.now t.lawful i (omega arith) c.at_round.result c.at_round.ensures;
       triples = t.lawful.limits.m_most;
       gates = gates_left c.loop-i.i p.r p.m _ _ (omega arith) c.requires.gates c.loop-i.invariant.1;
     }
@@ -34,7 +34,7 @@ loop-i-preserved g c =
           let s = lane j (map m c.loop-i.state) in
           let t = lane j (map m c.backward.new.state) in
           unrounds_more p ws i p.m key s t _ (omega arith) c.requires.sound.inverses
-          (unround_at p ws (p.r - 1 - i) (block_words_of p) (key_words_of p) c.at-round.result refl refl c.at-round.ensures p.m key s t (c.backward.ensures.lanes j h))
+          (unround_at p ws (p.r - 1 - i) (block_words_of p) (key_words_of p) c.at_round.result refl refl c.at_round.ensures p.m key s t (c.backward.ensures.lanes j h))
           (c.loop-i.invariant.0 j h)),
       gates_more i p.m _ _ _ c.loop-i.invariant.1 c.backward.ensures.spent,
     )
@@ -48,8 +48,8 @@ returns g c =
     record {
       lanes = λ j h.
           let s = lane j (map m c.loop-i.state) in
-          decrypted p ws c.loop-i.i (lane j (map m c.args.key.now)) s (lane j (map m c.add-wires.new.to)) (lane j (map m c.args.state.now)) e (c.loop-i.invariant.0 j h)
-          (c.add-wires.ensures (2 ^ j) ∙ ap (bit_xor s) (first_lane p ws c.key-words.result _ c.keys-from.result (2 ^ j) (map m c.args.key.now) (map m c.product.new.to)
-          c.key-words.ensures (omega arith) c.keys-from.ensures c.product.ensures));
+          decrypted p ws c.loop-i.i (lane j (map m c.args.key.now)) s (lane j (map m c.add_wires.new.to)) (lane j (map m c.args.state.now)) e (c.loop-i.invariant.0 j h)
+          (c.add_wires.ensures (2 ^ j) ∙ ap (bit_xor s) (first_lane p ws c.key_words.result _ c.keys_from.result (2 ^ j) (map m c.args.key.now) (map m c.product.new.to)
+          c.key_words.ensures (omega arith) c.keys_from.ensures c.product.ensures));
       spent = gates_all c.loop-i.i p.r p.m _ _ e c.loop-i.invariant.1;
     }

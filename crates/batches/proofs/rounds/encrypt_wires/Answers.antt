@@ -12,13 +12,13 @@ pub forward-requires : goal.forward-requires
 forward-requires g c =
     let p = c.args.p in
     let t = c.requires.sound in
-    let f = roomy p t.lawful.limits c.loop-i.i (omega arith) c.at-round.result (block_words_of p) (key_words_of p) (length c.args.words.now) c.at-round.ensures refl refl t.room in
+    let f = roomy p t.lawful.limits c.loop-i.i (omega arith) c.at_round.result (block_words_of p) (key_words_of p) (length c.args.words.now) c.at_round.ensures refl refl t.room in
     record {
       wires = (omega arith, omega arith, c.requires.wires.2, omega (arith, c.requires.wires.3));
       layer = f.layer;
       constant = f.constant;
       keyed = f.key;
-      narrow = constant_below p c.args.words.now t.lawful c.loop-i.i (omega arith) c.at-round.result c.at-round.ensures;
+      narrow = constant_below p c.args.words.now t.lawful c.loop-i.i (omega arith) c.at_round.result c.at_round.ensures;
       triples = t.lawful.limits.m_most;
       gates = gates_left c.loop-i.i p.r p.m _ _ (omega arith) c.requires.gates c.loop-i.invariant.1;
     }
@@ -34,7 +34,7 @@ loop-i-preserved g c =
           let s = lane j (map m c.loop-i.state) in
           let t = lane j (map m c.forward.new.state) in
           rounds_more p ws i p.m key s t _ (omega arith)
-          (round_at p ws i (block_words_of p) (key_words_of p) c.at-round.result refl refl c.at-round.ensures p.m key s t (c.forward.ensures.lanes j h)) (c.loop-i.invariant.0 j h)),
+          (round_at p ws i (block_words_of p) (key_words_of p) c.at_round.result refl refl c.at_round.ensures p.m key s t (c.forward.ensures.lanes j h)) (c.loop-i.invariant.0 j h)),
       gates_more i p.m _ _ _ c.loop-i.invariant.1 c.forward.ensures.spent,
     )
 
@@ -50,8 +50,8 @@ returns g c =
           let s = lane j (map m c.args.state.now) in
           rounds_done p ws c.loop-i.i p.m key (lane j (map m c.loop-i.state)) _ e (c.loop-i.invariant.0 j h)
           ∙ ap (λ x. rounds p.m key (layers_left p ws 0) (constants_left p ws 0) (keys_left p ws 0) x)
-          (c.add-wires.ensures (2 ^ j) ∙ ap (bit_xor s) (first_lane p ws c.key-words.result _ c.keys-from.result (2 ^ j) (map m c.args.key.now) (map m c.product.new.to)
-          c.key-words.ensures c.requires.wires.1 c.keys-from.ensures c.product.ensures))
+          (c.add_wires.ensures (2 ^ j) ∙ ap (bit_xor s) (first_lane p ws c.key_words.result _ c.keys_from.result (2 ^ j) (map m c.args.key.now) (map m c.product.new.to)
+          c.key_words.ensures c.requires.wires.1 c.keys_from.ensures c.product.ensures))
           ∙ encrypted p ws key s;
       spent = gates_all c.loop-i.i p.r p.m _ _ e c.loop-i.invariant.1;
     }

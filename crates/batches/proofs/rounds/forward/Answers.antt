@@ -11,7 +11,7 @@ returns g c =
     record {
       lanes = λ j h. forward_lane (block_words_of p) (key_words_of p) p.n p.m at.layer at.constant at.key c.args.words.now (map m c.args.key.now) (2 ^ j) _ _ _ _ _ _ _
           (map m c.substitute.new.cells) (map m c.product.new.to) (map m c.product-2.new.to)
-          c.block-words-w.ensures (omega arith) (omega arith) c.key-words.ensures (c.substitute.ensures.lanes j) c.product.ensures c.product-2.ensures
-          (c.add-wires.ensures (2 ^ j)) (c.add-constant.ensures j h);
+          c.block_words-w.ensures (omega arith) (omega arith) c.key_words.ensures (c.substitute.ensures.lanes j) c.product.ensures c.product-2.ensures
+          (c.add_wires.ensures (2 ^ j)) (c.add_constant.ensures j h);
       spent = c.substitute.ensures.spent;
     }

@@ -10,20 +10,20 @@ use Rattle.batches.proofs.wires.add_group.Goals as goal
 place : (b g : ℕ) → b * (64 / b) ≡ 64 → (64 * (g / (64 / b)) + b * (g % (64 / b)) ≡ b * g) × (b * (g % (64 / b)) + b ≤ 64)
 place b g e = group_place b (64 / b) g e (some_groups b (64 / b) e)
 
-pub overflow-add-pick : goal.overflow-add-pick
-overflow-add-pick g c = omega (arith, row_ends c.loop-i.i (length c.args.to.now) c.args.w (omega arith), c.requires.fits, c.requires.place, place c.args.b c.args.g c.requires.whole.2)
+pub overflow_add-pick : goal.overflow_add-pick
+overflow_add-pick g c = omega (arith, row_ends c.loop-i.i (length c.args.to.now) c.args.w (omega arith), c.requires.fits, c.requires.place, place c.args.b c.args.g c.requires.whole.2)
 
-pub overflow-add-pick-in-loop-i : goal.overflow-add-pick-in-loop-i
-overflow-add-pick-in-loop-i g c = omega (arith, row_ends c.loop-i.i (length c.args.to.now) c.args.w (omega arith), c.requires.fits, c.requires.place, place c.args.b c.args.g c.requires.whole.2)
+pub overflow_add-pick-in-loop-i : goal.overflow_add-pick-in-loop-i
+overflow_add-pick-in-loop-i g c = omega (arith, row_ends c.loop-i.i (length c.args.to.now) c.args.w (omega arith), c.requires.fits, c.requires.place, place c.args.b c.args.g c.requires.whole.2)
 
-pub offset-bounds-words-at : goal.offset-bounds-words-at
-offset-bounds-words-at g c = omega (arith, row_ends c.loop-i.i (length c.args.to.now) c.args.w (omega arith), c.requires.fits, c.requires.place, place c.args.b c.args.g c.requires.whole.2)
+pub offset_bounds-words-at : goal.offset_bounds-words-at
+offset_bounds-words-at g c = omega (arith, row_ends c.loop-i.i (length c.args.to.now) c.args.w (omega arith), c.requires.fits, c.requires.place, place c.args.b c.args.g c.requires.whole.2)
 
 pub bounds-words-at : goal.bounds-words-at
 bounds-words-at g c = omega (arith, row_ends c.loop-i.i (length c.args.to.now) c.args.w (omega arith), c.requires.fits, c.requires.place, place c.args.b c.args.g c.requires.whole.2)
 
-pub overflow-shr-pick : goal.overflow-shr-pick
-overflow-shr-pick g c = omega (arith, place c.args.b c.args.g c.requires.whole.2, c.requires.whole.0)
+pub overflow_shr-pick : goal.overflow_shr-pick
+overflow_shr-pick g c = omega (arith, place c.args.b c.args.g c.requires.whole.2, c.requires.whole.0)
 
 pub loop-i-preserved : goal.loop-i-preserved
 loop-i-preserved g c =
@@ -45,7 +45,7 @@ loop-i-preserved g c =
     let pick : ℕ = get_or ws (at + i * w + k / q) 0 / 2 ^ (b * (k % q)) % (1 * 2 ^ b % 2 ^ 64) in
     let is : pick ≡ row_at w (drop at ws) i / 2 ^ (b * k) % 2 ^ b =
     ap (λ n. get_or ws (at + i * w + k / q) 0 / 2 ^ (b * (k % q)) % n) ways
-    ∙ group_bits ws at w i b q k (length from) (λ j. omega (arith, c.type-inv.words j)) (omega arith) c.requires.fits whole (some_groups b q whole) (omega (arith, p, c.requires.place)) in
+    ∙ group_bits ws at w i b q k (length from) (λ j. omega (arith, c.type_inv.words j)) (omega arith) c.requires.fits whole (some_groups b q whole) (omega (arith, p, c.requires.place)) in
     let few : row_at w (drop at ws) i / 2 ^ (b * k) % 2 ^ b < 2 ^ b = mod-lt _ (pow_pos b) in
     group_step m xs from i c.add.result (λ j. bit_xor (get_or (map m from) j 0) (get_or (map m sums) (row_at w (drop at ws) j / 2 ^ (b * k) % 2 ^ b) 0)) lt c.loop-i.invariant.0 c.loop-i.invariant.1
     (c.add.ensures ∙ ap₂ bit_xor (same_past m xs from i _ lt c.index-to-i.is c.loop-i.invariant.1)

@@ -38,7 +38,7 @@ loop-t-preserved g c =
     below_more (λ s. get_or (map m (set xs t c.add.result)) s 0 ≡ comb ms s) t
     (λ s l. read_other m xs t s c.add.result (omega arith) ∙ c.loop-t.invariant s l)
     (read_set m xs t t c.add.result long refl ∙ c.add.ensures
-    ∙ ways_more b t u _ _ ms h.1 h.2 e (read_map m xs u _ (omega (arith, low, long)) c.index-sums-t.is ∙ c.loop-t.invariant u low) c.wire-at.ensures)
+    ∙ ways_more b t u _ _ ms h.1 h.2 e (read_map m xs u _ (omega (arith, low, long)) c.index-sums-t.is ∙ c.loop-t.invariant u low) c.wire_at.ensures)
 
 pub returns : goal.returns
 returns g c t h = c.loop-t.invariant t (omega (arith, h, (ways c.args.b c.requires.few).0, c.loop-t-test.false))

@@ -25,15 +25,15 @@ loop-i-init g c = (
   ),
 )
 
-pub slice-bounds-draw-key-end : goal.slice-bounds-draw-key-end
-slice-bounds-draw-key-end g c = let r = room c.args.count c.args.n c.width.result (width_of c.args.k) (length c.args.out.now) c.loop-i.i c.width.ensures.value c.requires.size c.loop-i-test.true in omega arith
+pub slice_bounds-draw_key-end : goal.slice_bounds-draw_key-end
+slice_bounds-draw_key-end g c = let r = room c.args.count c.args.n c.width.result (width_of c.args.k) (length c.args.out.now) c.loop-i.i c.width.ensures.value c.requires.size c.loop-i-test.true in omega arith
 
-pub returns-in-err-at : goal.returns-in-err-at
-returns-in-err-at g c f s =
-    let p = err_from_is_err_and c.from-residual.result c.from-residual.ensures.1 in
+pub returns-in_err-at : goal.returns-in_err-at
+returns-in_err-at g c f s =
+    let p = err_from_is_err_and c.from_residual.result c.from_residual.ensures.1 in
     let v = c.loop-i.invariant.1 f s in
-    let d = c.in-err-at.ensures.drew f v.4 in
-    took_stop f (several (kept_key f c.args.n c.args.k) c.args.count c.args.taken) _ _ c.from-residual.result _ p.0 p.1 p.2
+    let d = c.in_err-at.ensures.drew f v.4 in
+    took_stop f (several (kept_key f c.args.n c.args.k) c.args.count c.args.taken) _ _ c.from_residual.result _ p.0 p.1 p.2
     (several_stop (kept_key f c.args.n c.args.k) c.loop-i.i c.args.count c.args.taken c.loop-i.at v.0 _ c.loop-i-test.true v.1 d.0) d.1
 
 pub loop-i-preserved : goal.loop-i-preserved
@@ -44,14 +44,14 @@ loop-i-preserved g c =
     let w : ℕ = c.width.result in
     let v : ℕ = width_of k in
     let out : List ℕ = c.loop-i.out in
-    let new : List ℕ = c.draw-key.new.out in
+    let new : List ℕ = c.draw_key.new.out in
     let r : i * (n * w) + n * w ≤ length c.args.out.now = room c.args.count n w v (length c.args.out.now) i c.width.ensures.value c.requires.size c.loop-i-test.true in (
-      omega (arith, c.in-ok-at.ensures.moved, c.loop-i.invariant.0),
+      omega (arith, c.in_ok-at.ensures.moved, c.loop-i.invariant.0),
       λ f s.
           let u = c.loop-i.invariant.1 f s in
-          let d = c.in-ok-at.ensures.drew f u.4 in (
+          let d = c.in_ok-at.ensures.drew f u.4 in (
             u.0 ++ (d.0 ∷ []),
-            several_more (kept_key f n k) i c.args.taken c.loop-i.at c.in-ok-at.at u.0 d.0 u.1 d.1,
+            several_more (kept_key f n k) i c.args.taken c.loop-i.at c.in_ok-at.at u.0 d.0 u.1 d.1,
             record {
               size = length_push u.0 d.0 ∙ ap (λ (x : ℕ). x + 1) u.2.size;
               each = each_push (Matrix n k) u.0 d.0 u.2.each d.2.0;

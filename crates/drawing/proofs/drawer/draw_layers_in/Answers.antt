@@ -28,24 +28,24 @@ loop-i-init g c =
       ),
     )
 
-pub draw-layer-requires : goal.draw-layer-requires
-draw-layer-requires g c =
+pub draw_layer-requires : goal.draw_layer-requires
+draw_layer-requires g c =
     record { many = c.requires.many; size = c.loop-i.auto.layer ∙ c.requires.layer; room = c.loop-i.auto.inverse ∙ c.requires.inverse; small = omega (arith, c.loop-i.invariant.0, c.requires.few) }
 
-pub returns-in-err-at : goal.returns-in-err-at
-returns-in-err-at g c =
-    let p = err_from_is_err_and c.from-residual.result c.from-residual.ensures.1 in
+pub returns-in_err-at : goal.returns-in_err-at
+returns-in_err-at g c =
+    let p = err_from_is_err_and c.from_residual.result c.from_residual.ensures.1 in
     record {
       drew = λ f s.
           let v = c.loop-i.invariant.1 f s in
-          let d = c.in-err-at.ensures.drew f v.5 in
-          took_stop f (several (kept_layer f c.args.n) c.args.rounds 0) _ _ c.from-residual.result _ p.0 p.1 p.2
+          let d = c.in_err-at.ensures.drew f v.5 in
+          took_stop f (several (kept_layer f c.args.n) c.args.rounds 0) _ _ c.from_residual.result _ p.0 p.1 p.2
           (several_stop (kept_layer f c.args.n) c.loop-i.i c.args.rounds 0 c.loop-i.at v.0 _ c.loop-i-test.true v.1 d.0) d.1;
-      moved = IfOk-from_err c.from-residual.result _ c.from-residual.ensures.0;
+      moved = IfOk-from_err c.from_residual.result _ c.from_residual.ensures.0;
     }
 
-pub write-over-requires : goal.write-over-requires
-write-over-requires g c =
+pub write_over-requires : goal.write_over-requires
+write_over-requires g c =
     omega (
       arith,
       ends c.loop-i.i c.args.rounds (length c.args.layer.now) (c.args.n * width_of c.args.n) c.requires.layer c.loop-i-test.true,
@@ -53,11 +53,11 @@ write-over-requires g c =
       c.requires.front,
       c.loop-i.auto.words,
       c.loop-i.auto.layer,
-      c.draw-layer.auto.layer,
+      c.draw_layer.auto.layer,
     )
 
-pub write-over-requires-in-loop-i : goal.write-over-requires-in-loop-i
-write-over-requires-in-loop-i g c =
+pub write_over-requires-in-loop-i : goal.write_over-requires-in-loop-i
+write_over-requires-in-loop-i g c =
     omega (
       arith,
       ends c.loop-i.i c.args.rounds (length c.args.layer.now) (c.args.n * width_of c.args.n) c.requires.layer c.loop-i-test.true,
@@ -67,8 +67,8 @@ write-over-requires-in-loop-i g c =
       c.requires.inverse,
       c.loop-i.auto.words,
       c.loop-i.auto.inverse,
-      c.draw-layer.auto.inverse,
-      c.write-over.auto.words,
+      c.draw_layer.auto.inverse,
+      c.write_over.auto.words,
     )
 
 pub loop-i-preserved : goal.loop-i-preserved
@@ -78,19 +78,19 @@ loop-i-preserved g c =
     let w : ℕ = width_of n in
     let z : ℕ = length c.args.layer.now in
     let r : i * z + z ≤ c.args.rounds * (n * w) = ends i c.args.rounds z (n * w) c.requires.layer c.loop-i-test.true in
-    let one : List ℕ = c.draw-layer.new.layer in
-    let other : List ℕ = c.draw-layer.new.inverse in
+    let one : List ℕ = c.draw_layer.new.layer in
+    let other : List ℕ = c.draw_layer.new.inverse in
     let words : List ℕ = c.loop-i.words in
-    let new : c.write-over-in-loop-i.new.words ≡ over (c.args.second + i * z) other (over (i * z) one words) =
-    c.write-over-in-loop-i.ensures ∙ ap (over (c.args.second + i * z) other) c.write-over.ensures in (
-      omega (arith, c.in-ok-at.ensures.moved, c.loop-i.invariant.0),
+    let new : c.write_over-in-loop-i.new.words ≡ over (c.args.second + i * z) other (over (i * z) one words) =
+    c.write_over-in-loop-i.ensures ∙ ap (over (c.args.second + i * z) other) c.write_over.ensures in (
+      omega (arith, c.in_ok-at.ensures.moved, c.loop-i.invariant.0),
       λ f s.
           let v = c.loop-i.invariant.1 f s in
-          let d = c.in-ok-at.ensures.drew f v.5 in
+          let d = c.in_ok-at.ensures.drew f v.5 in
           let t = two_written z i c.args.second words one other (flat w (joined v.0)) (flat w (joined (map inverse_of v.0))) (omega (arith, c.requires.front))
-          (omega (arith, c.requires.size, c.loop-i.auto.words)) (omega (arith, c.draw-layer.auto.layer, c.loop-i.auto.layer)) (omega (arith, c.draw-layer.auto.inverse, c.loop-i.auto.inverse, c.requires.inverse, c.requires.layer)) v.3 v.4 in (
+          (omega (arith, c.requires.size, c.loop-i.auto.words)) (omega (arith, c.draw_layer.auto.layer, c.loop-i.auto.layer)) (omega (arith, c.draw_layer.auto.inverse, c.loop-i.auto.inverse, c.requires.inverse, c.requires.layer)) v.3 v.4 in (
             v.0 ++ (d.0 ∷ []),
-            several_more (kept_layer f n) i 0 c.loop-i.at c.in-ok-at.at v.0 d.0 v.1 d.1,
+            several_more (kept_layer f n) i 0 c.loop-i.at c.in_ok-at.at v.0 d.0 v.1 d.1,
             record {
               size = length_push v.0 d.0 ∙ ap (λ (x : ℕ). x + 1) v.2.size;
               each = each_push (Matrix n n) v.0 d.0 v.2.each d.2.0;

@@ -17,33 +17,33 @@ loop-i-init g c = (omega (arith, zero-mul c.args.k), λ f s. ([], several_none (
 room : (count w v l i : ℕ) → w ≡ v → l ≡ count * v → i < count → i * w + w ≤ l
 room count w v l i e h t = omega (arith, row_ends i count w t, ap (λ (x : ℕ). count * x) e)
 
-pub overflow-add-start : goal.overflow-add-start
-overflow-add-start g c = let r = room c.args.count c.width-w.result (width_of c.args.k) (length c.args.out.now) c.loop-i.i c.width-w.ensures.value c.requires.size c.loop-i-test.true in omega arith
+pub overflow_add-start : goal.overflow_add-start
+overflow_add-start g c = let r = room c.args.count c.width-w.result (width_of c.args.k) (length c.args.out.now) c.loop-i.i c.width-w.ensures.value c.requires.size c.loop-i-test.true in omega arith
 
-pub offset-bounds-out-start : goal.offset-bounds-out-start
-offset-bounds-out-start g c = let r = room c.args.count c.width-w.result (width_of c.args.k) (length c.args.out.now) c.loop-i.i c.width-w.ensures.value c.requires.size c.loop-i-test.true in omega arith
+pub offset_bounds-out-start : goal.offset_bounds-out-start
+offset_bounds-out-start g c = let r = room c.args.count c.width-w.result (width_of c.args.k) (length c.args.out.now) c.loop-i.i c.width-w.ensures.value c.requires.size c.loop-i-test.true in omega arith
 
-pub slice-bounds-draw-row-end : goal.slice-bounds-draw-row-end
-slice-bounds-draw-row-end g c = let r = room c.args.count c.width-w.result (width_of c.args.k) (length c.args.out.now) c.loop-i.i c.width-w.ensures.value c.requires.size c.loop-i-test.true in omega arith
+pub slice_bounds-draw_row-end : goal.slice_bounds-draw_row-end
+slice_bounds-draw_row-end g c = let r = room c.args.count c.width-w.result (width_of c.args.k) (length c.args.out.now) c.loop-i.i c.width-w.ensures.value c.requires.size c.loop-i-test.true in omega arith
 
-pub draw-row-requires : goal.draw-row-requires
-draw-row-requires g c =
+pub draw_row-requires : goal.draw_row-requires
+draw_row-requires g c =
     let r = room c.args.count c.width-w.result (width_of c.args.k) (length c.args.out.now) c.loop-i.i c.width-w.ensures.value c.requires.size c.loop-i-test.true in
     record {
       room = simp (length-take, length-drop) (omega (arith, c.width-w.ensures.covers.0));
       small = omega (arith, c.loop-i.invariant.0, row_ends c.loop-i.i c.args.count c.args.k c.loop-i-test.true);
     }
 
-pub returns-in-err-at : goal.returns-in-err-at
-returns-in-err-at g c =
-    let p = err_from_is_err_and c.from-residual.result c.from-residual.ensures.1 in
+pub returns-in_err-at : goal.returns-in_err-at
+returns-in_err-at g c =
+    let p = err_from_is_err_and c.from_residual.result c.from_residual.ensures.1 in
     record {
       drew = λ f s.
           let v = c.loop-i.invariant.1 f s in
-          let d = c.in-err-at.ensures.drew f v.4 in
-          took_stop f (matrix f c.args.count c.args.k c.args.taken) _ _ c.from-residual.result _ p.0 p.1 p.2
+          let d = c.in_err-at.ensures.drew f v.4 in
+          took_stop f (matrix f c.args.count c.args.k c.args.taken) _ _ c.from_residual.result _ p.0 p.1 p.2
           (several_stop (row f c.args.k) c.loop-i.i c.args.count c.args.taken c.loop-i.at v.0 _ c.loop-i-test.true v.1 d.0) d.1;
-      moved = IfOk-from_err c.from-residual.result _ c.from-residual.ensures.0;
+      moved = IfOk-from_err c.from_residual.result _ c.from_residual.ensures.0;
     }
 
 pub loop-i-preserved : goal.loop-i-preserved
@@ -52,16 +52,16 @@ loop-i-preserved g c =
     let w : ℕ = c.width-w.result in
     let k : ℕ = c.args.k in
     let out : List ℕ = c.loop-i.out in
-    let new : List ℕ = c.draw-row.new.out in
+    let new : List ℕ = c.draw_row.new.out in
     let r : i * w + w ≤ length c.args.out.now = room c.args.count w (width_of k) (length c.args.out.now) i c.width-w.ensures.value c.requires.size c.loop-i-test.true in
     let part : length (take (i * w + w - i * w) (drop (i * w) out)) ≡ w = simp (length-take, length-drop) (omega arith) in (
-      omega (arith, c.in-ok-at.ensures.moved, c.loop-i.invariant.0, one_more i k),
+      omega (arith, c.in_ok-at.ensures.moved, c.loop-i.invariant.0, one_more i k),
       λ f s.
           let v = c.loop-i.invariant.1 f s in
-          let d = c.in-ok-at.ensures.drew f v.4 in
+          let d = c.in_ok-at.ensures.drew f v.4 in
           let is : new ≡ words_of w d.0 = d.2.1 ∙ ap (λ (n : ℕ). words_of n d.0) part in (
             v.0 ++ (d.0 ∷ []),
-            several_more (row f k) i c.args.taken c.loop-i.at c.in-ok-at.at v.0 d.0 v.1 d.1,
+            several_more (row f k) i c.args.taken c.loop-i.at c.in_ok-at.at v.0 d.0 v.1 d.1,
             matrix_push i k d.0 v.0 v.2 d.2.0,
             filled w i _ out new (flat w v.0) (omega arith) (ap length is ∙ length_words_of w d.0) v.3
                 ∙ ap (λ (xs : List ℕ). flat w v.0 ++ xs) is ∙ sym (flat_push w d.0 v.0),

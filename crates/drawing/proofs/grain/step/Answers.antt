@@ -7,8 +7,8 @@ use Rattle.drawing.proofs.grain.step.Goals as goal
 pub returns : goal.returns
 returns c =
     let s : ℕ = c.args.s in
-    let b : ℕ = c.new-bit.result in
-    let e : b ≡ new_bit_of s = c.new-bit.ensures in
+    let b : ℕ = c.new_bit.result in
+    let e : b ≡ new_bit_of s = c.new_bit.ensures in
     let l : b < 2 = subst (λ (x : ℕ). x < 2) (sym e) (new_below s) in
     let is : s / 2 + b * 2 ^ 79 % 2 ^ 128 ≡ shift s = small s b l ∙ ap (λ (x : ℕ). s / 2 + x * 2 ^ 79) e in
     record {

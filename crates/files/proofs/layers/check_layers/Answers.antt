@@ -7,8 +7,8 @@ use Rattle.cipher.specs.Laws.{Invertible}
 use Rattle.files.proofs.Inverting.{each_more, matrix_at_is}
 use Rattle.files.proofs.layers.check_layers.Goals as goal
 
-pub check-layer-requires : goal.check-layer-requires
-check-layer-requires c =
+pub check_layer-requires : goal.check_layer-requires
+check_layer-requires c =
     let e = row_ends c.loop-j.j c.args.count (record_size (byte_width_of c.args.n) c.args.n) (omega arith) in
     record { bytes = omega (arith, e, c.requires.bytes); most = c.requires.most; zeros = refl }
 
@@ -22,7 +22,7 @@ returns-in-Collapses c =
       most = omega arith;
       collapses = subst (λ L. Witness L t.vector) (sym (matrix_at_is (byte_width_of n) n c.args.count c.loop-j.j c.args.bytes.now (omega arith))) t.collapses;
       refused = c.at.ensures;
-      written = ap₂ (λ xs ys. xs ++ drop 4 ys) (c.copy-from-slice.ensures.after ∙ t.is) c.loop-j.invariant.1;
+      written = ap₂ (λ xs ys. xs ++ drop 4 ys) (c.copy_from_slice.ensures.after ∙ t.is) c.loop-j.invariant.1;
     }
 
 pub loop-j-preserved : goal.loop-j-preserved

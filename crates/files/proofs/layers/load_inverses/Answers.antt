@@ -15,14 +15,14 @@ use Rattle.files.proofs.layers.load_inverses.Goals as goal
 ends : (j count n s w v : ℕ) → j < count → w ≡ v → (j * s + s ≤ count * s) × (j * (n * w) + n * w ≤ count * (n * v))
 ends j count n s w v h e = (row_ends j count s h, subst (λ k. j * (n * w) + n * w ≤ count * (n * k)) e (row_ends j count (n * w) h))
 
-pub offset-bounds-out-to : goal.offset-bounds-out-to
-offset-bounds-out-to c = omega (arith, ends c.loop-j.j c.args.count c.args.n 0 c.width-w.result (width_of c.args.n) (omega arith) c.width-w.ensures.value)
+pub offset_bounds-out-to : goal.offset_bounds-out-to
+offset_bounds-out-to c = omega (arith, ends c.loop-j.j c.args.count c.args.n 0 c.width-w.result (width_of c.args.n) (omega arith) c.width-w.ensures.value)
 
-pub slice-bounds-invert-record-end : goal.slice-bounds-invert-record-end
-slice-bounds-invert-record-end c = omega (arith, ends c.loop-j.j c.args.count c.args.n 0 c.width-w.result (width_of c.args.n) (omega arith) c.width-w.ensures.value)
+pub slice_bounds-invert_record-end : goal.slice_bounds-invert_record-end
+slice_bounds-invert_record-end c = omega (arith, ends c.loop-j.j c.args.count c.args.n 0 c.width-w.result (width_of c.args.n) (omega arith) c.width-w.ensures.value)
 
-pub invert-record-requires : goal.invert-record-requires
-invert-record-requires c =
+pub invert_record-requires : goal.invert_record-requires
+invert_record-requires c =
     let n = c.args.n in
     let w = c.width-w.result in
     let e = ends c.loop-j.j c.args.count n (record_size (byte_width_of n) n) w (width_of n) (omega arith) c.width-w.ensures.value in
@@ -48,10 +48,10 @@ loop-j-preserved c =
     let inv : Invertible (matrix_at (byte_width_of n) n j bs) =
     subst Invertible (matrix_at_is (byte_width_of n) n c.args.count j bs (omega arith))
     (each_at Invertible (matrices_of (byte_width_of n) n c.args.count bs) j [] (omega (arith, length_matrices (byte_width_of n) n c.args.count bs)) c.requires.invertible) in
-    let is : c.invert-record.new.inverse ≡ flat v (inverse_of (matrix_at (byte_width_of n) n j bs)) = inverted v (matrix_at (byte_width_of n) n j bs) _ _ _ _ _ inv c.invert-record.ensures in
-    ap (λ x. take ((j + 1) * (n * x)) (put_mid to (to + n * w - to) c.loop-j.out c.invert-record.new.inverse)) (sym is-v)
-    ∙ put_piece (n * w) j (to + n * w - to) c.loop-j.out c.invert-record.new.inverse _ _ (omega (arith, e.1))
-    (omega (arith, e.1, simp (length-take, length-drop) at c.invert-record.auto.inverse)) k (ap (λ x. take (j * (n * x)) c.loop-j.out) is-v ∙ c.loop-j.invariant) is
+    let is : c.invert_record.new.inverse ≡ flat v (inverse_of (matrix_at (byte_width_of n) n j bs)) = inverted v (matrix_at (byte_width_of n) n j bs) _ _ _ _ _ inv c.invert_record.ensures in
+    ap (λ x. take ((j + 1) * (n * x)) (put_mid to (to + n * w - to) c.loop-j.out c.invert_record.new.inverse)) (sym is-v)
+    ∙ put_piece (n * w) j (to + n * w - to) c.loop-j.out c.invert_record.new.inverse _ _ (omega (arith, e.1))
+    (omega (arith, e.1, simp (length-take, length-drop) at c.invert_record.auto.inverse)) k (ap (λ x. take (j * (n * x)) c.loop-j.out) is-v ∙ c.loop-j.invariant) is
     ∙ sym (inverses_more (byte_width_of n) n v j bs)
 
 pub returns : goal.returns

@@ -3,17 +3,17 @@ use Rattle.std.proofs.lemmas.Result.{err_from_is_err_and}
 use Rattle.files.specs.Reading.{Read}
 use Rattle.files.proofs.report.judge.Goals as goal
 
-pub returns-in-err-params : goal.returns-in-err-params
-returns-in-err-params c =
-    let a = c.from-residual.result in
-    let q = err_from_is_err_and a c.from-residual.ensures.1 in
+pub returns-in_err-params : goal.returns-in_err-params
+returns-in_err-params c =
+    let a = c.from_residual.result in
+    let q = err_from_is_err_and a c.from_residual.ensures.1 in
     let ws = c.read.new.words in
     let wit = c.read.new.witness in
     record {
       words = ws;
       witness = wit;
       read = subst (λ f. Read f (replicate 8192 0) (replicate 4 0) ws wit a) c.front.ensures
-          (subst (λ r. Read c.front.result.now (replicate 8192 0) (replicate 4 0) ws wit r) (sym (q.1 ∙ ap Err q.2)) c.in-err-params.ensures.read);
+          (subst (λ r. Read c.front.result.now (replicate 8192 0) (replicate 4 0) ws wit r) (sym (q.1 ∙ ap Err q.2)) c.in_err-params.ensures.read);
     }
 
 pub returns : goal.returns
@@ -23,5 +23,5 @@ returns c =
     record {
       words = ws;
       witness = wit;
-      read = subst (λ f. Read f (replicate 8192 0) (replicate 4 0) ws wit (Ok c.in-ok-params.params)) c.front.ensures c.in-ok-params.ensures.read;
+      read = subst (λ f. Read f (replicate 8192 0) (replicate 4 0) ws wit (Ok c.in_ok-params.params)) c.front.ensures c.in_ok-params.ensures.read;
     }

@@ -10,38 +10,38 @@ use Rattle.files.proofs.rows.load_records.Goals as goal
 ends : (j n s p : ℕ) → j < n → (j * s + s ≤ n * s) × (j * p + p ≤ n * p)
 ends j n s p h = (row_ends j n s h, row_ends j n p h)
 
-pub overflow-mul-body : goal.overflow-mul-body
-overflow-mul-body c = omega (arith, ends c.loop-j.j c.args.records (record_size c.args.size c.args.count) (c.args.count * c.args.w) (omega arith))
+pub overflow_mul-body : goal.overflow_mul-body
+overflow_mul-body c = omega (arith, ends c.loop-j.j c.args.records (record_size c.args.size c.args.count) (c.args.count * c.args.w) (omega arith))
 
-pub overflow-mul-piece : goal.overflow-mul-piece
-overflow-mul-piece c = omega (arith, ends c.loop-j.j c.args.records (record_size c.args.size c.args.count) (c.args.count * c.args.w) (omega arith))
+pub overflow_mul-piece : goal.overflow_mul-piece
+overflow_mul-piece c = omega (arith, ends c.loop-j.j c.args.records (record_size c.args.size c.args.count) (c.args.count * c.args.w) (omega arith))
 
-pub overflow-add-from : goal.overflow-add-from
-overflow-add-from c = omega (arith, ends c.loop-j.j c.args.records (record_size c.args.size c.args.count) (c.args.count * c.args.w) (omega arith))
+pub overflow_add-from : goal.overflow_add-from
+overflow_add-from c = omega (arith, ends c.loop-j.j c.args.records (record_size c.args.size c.args.count) (c.args.count * c.args.w) (omega arith))
 
-pub overflow-mul-from : goal.overflow-mul-from
-overflow-mul-from c = omega (arith, ends c.loop-j.j c.args.records (record_size c.args.size c.args.count) (c.args.count * c.args.w) (omega arith))
+pub overflow_mul-from : goal.overflow_mul-from
+overflow_mul-from c = omega (arith, ends c.loop-j.j c.args.records (record_size c.args.size c.args.count) (c.args.count * c.args.w) (omega arith))
 
-pub overflow-add-from-in-loop-j : goal.overflow-add-from-in-loop-j
-overflow-add-from-in-loop-j c = omega (arith, ends c.loop-j.j c.args.records (record_size c.args.size c.args.count) (c.args.count * c.args.w) (omega arith))
+pub overflow_add-from-in-loop-j : goal.overflow_add-from-in-loop-j
+overflow_add-from-in-loop-j c = omega (arith, ends c.loop-j.j c.args.records (record_size c.args.size c.args.count) (c.args.count * c.args.w) (omega arith))
 
-pub overflow-mul-to : goal.overflow-mul-to
-overflow-mul-to c = omega (arith, ends c.loop-j.j c.args.records (record_size c.args.size c.args.count) (c.args.count * c.args.w) (omega arith))
+pub overflow_mul-to : goal.overflow_mul-to
+overflow_mul-to c = omega (arith, ends c.loop-j.j c.args.records (record_size c.args.size c.args.count) (c.args.count * c.args.w) (omega arith))
 
-pub overflow-add-from-in-loop-j-2 : goal.overflow-add-from-in-loop-j-2
-overflow-add-from-in-loop-j-2 c = omega (arith, ends c.loop-j.j c.args.records (record_size c.args.size c.args.count) (c.args.count * c.args.w) (omega arith))
+pub overflow_add-from-in-loop-j-2 : goal.overflow_add-from-in-loop-j-2
+overflow_add-from-in-loop-j-2 c = omega (arith, ends c.loop-j.j c.args.records (record_size c.args.size c.args.count) (c.args.count * c.args.w) (omega arith))
 
-pub offset-bounds-out-to : goal.offset-bounds-out-to
-offset-bounds-out-to c = omega (arith, ends c.loop-j.j c.args.records (record_size c.args.size c.args.count) (c.args.count * c.args.w) (omega arith))
+pub offset_bounds-out-to : goal.offset_bounds-out-to
+offset_bounds-out-to c = omega (arith, ends c.loop-j.j c.args.records (record_size c.args.size c.args.count) (c.args.count * c.args.w) (omega arith))
 
-pub slice-bounds-load-rows-end : goal.slice-bounds-load-rows-end
-slice-bounds-load-rows-end c = omega (arith, ends c.loop-j.j c.args.records (record_size c.args.size c.args.count) (c.args.count * c.args.w) (omega arith))
+pub slice_bounds-load_rows-end : goal.slice_bounds-load_rows-end
+slice_bounds-load_rows-end c = omega (arith, ends c.loop-j.j c.args.records (record_size c.args.size c.args.count) (c.args.count * c.args.w) (omega arith))
 
-pub overflow-add-to : goal.overflow-add-to
-overflow-add-to c = omega (arith, ends c.loop-j.j c.args.records (record_size c.args.size c.args.count) (c.args.count * c.args.w) (omega arith))
+pub overflow_add-to : goal.overflow_add-to
+overflow_add-to c = omega (arith, ends c.loop-j.j c.args.records (record_size c.args.size c.args.count) (c.args.count * c.args.w) (omega arith))
 
-pub slice-bounds-load-rows-end-in-loop-j : goal.slice-bounds-load-rows-end-in-loop-j
-slice-bounds-load-rows-end-in-loop-j c = omega (arith, ends c.loop-j.j c.args.records (record_size c.args.size c.args.count) (c.args.count * c.args.w) (omega arith))
+pub slice_bounds-load_rows-end-in-loop-j : goal.slice_bounds-load_rows-end-in-loop-j
+slice_bounds-load_rows-end-in-loop-j c = omega (arith, ends c.loop-j.j c.args.records (record_size c.args.size c.args.count) (c.args.count * c.args.w) (omega arith))
 
 pub loop-j-preserved : goal.loop-j-preserved
 loop-j-preserved c =
@@ -55,9 +55,9 @@ loop-j-preserved c =
     let e = ends j c.args.records (record_size s n) (n * w) (omega arith) in
     let a : from + n * s - from ≡ n * s = omega arith in
     let b : to + n * w - to ≡ n * w = omega arith in
-    let is : c.load-rows.new.out ≡ flat w (byte_rows s n (drop from bs)) =
-    c.load-rows.ensures ∙ ap (λ k. flat w (byte_rows s n (take k (drop from bs)))) a ∙ ap (flat w) (byte_rows_take s n (drop from bs)) in
-    put_piece (n * w) j (to + n * w - to) c.loop-j.out c.load-rows.new.out _ _ (omega arith)
+    let is : c.load_rows.new.out ≡ flat w (byte_rows s n (drop from bs)) =
+    c.load_rows.ensures ∙ ap (λ k. flat w (byte_rows s n (take k (drop from bs)))) a ∙ ap (flat w) (byte_rows_take s n (drop from bs)) in
+    put_piece (n * w) j (to + n * w - to) c.loop-j.out c.load_rows.new.out _ _ (omega arith)
     (ap length is ∙ length_flat w (byte_rows s n (drop from bs)) ∙ ap (λ k. k * w) (length_byte_rows s n (drop from bs))) b c.loop-j.invariant is
     ∙ sym (records_more s n w j bs)
 

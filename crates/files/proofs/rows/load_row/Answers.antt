@@ -6,7 +6,7 @@ use Rattle.files.proofs.rows.load_row.Goals as goal
 
 pub loop-k-preserved : goal.loop-k-preserved
 loop-k-preserved c =
-    row_more c.args.row.now c.loop-k.out c.loop-k.k c.word.result (λ i. omega (arith, c.type-inv.row i)) (omega arith) c.word.ensures c.loop-k.invariant
+    row_more c.args.row.now c.loop-k.out c.loop-k.k c.word.result (λ i. omega (arith, c.type_inv.row i)) (omega arith) c.word.ensures c.loop-k.invariant
 
 pub returns : goal.returns
 returns c =

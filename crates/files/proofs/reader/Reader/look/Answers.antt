@@ -10,19 +10,19 @@ pub returns-in-Some-Layer : goal.returns-in-Some-Layer
 returns-in-Some-Layer c =
     let r = c.args.self.now in
     let is : r.due ≡ Some Layer = search rules in
-    c.look-record.ensures ∙ ap (seen r.at (record_slots Layer r.params.n c.args.self.now.params.n r.round)) (take_rest r.file.now r.at)
+    c.look_record.ensures ∙ ap (seen r.at (record_slots Layer r.params.n c.args.self.now.params.n r.round)) (take_rest r.file.now r.at)
     ∙ sym (ap (λ d. seen r.at (slots_at (state_of r) d) (drop r.at r.file.now)) is)
 
 pub returns-in-Some-Constant : goal.returns-in-Some-Constant
 returns-in-Some-Constant c =
     let r = c.args.self.now in
     let is : r.due ≡ Some Constant = search rules in
-    c.look-record-in-Some-Constant.ensures ∙ ap (seen r.at (record_slots Constant r.params.n 1 r.round)) (take_rest r.file.now r.at)
+    c.look_record-in-Some-Constant.ensures ∙ ap (seen r.at (record_slots Constant r.params.n 1 r.round)) (take_rest r.file.now r.at)
     ∙ sym (ap (λ d. seen r.at (slots_at (state_of r) d) (drop r.at r.file.now)) is)
 
 pub returns-in-Some-Key : goal.returns-in-Some-Key
 returns-in-Some-Key c =
     let r = c.args.self.now in
     let is : r.due ≡ Some Key = search rules in
-    c.look-record-in-Some-Key.ensures ∙ ap (seen r.at (record_slots Key r.params.k c.args.self.now.params.n r.round)) (take_rest r.file.now r.at)
+    c.look_record-in-Some-Key.ensures ∙ ap (seen r.at (record_slots Key r.params.k c.args.self.now.params.n r.round)) (take_rest r.file.now r.at)
     ∙ sym (ap (λ d. seen r.at (slots_at (state_of r) d) (drop r.at r.file.now)) is)
