@@ -32,7 +32,7 @@ fn check_batch(
     masks: usize,
     cells: usize,
 ) -> Result<(), Fault>
-    ensures { (ws : List ℕ) → result ≡ batch_checks lanes account (Some (p, ws)) count blocks.now keys.now masks cells }
+    ensures { (ws : List ℕ) → result ≡ batch_checks E.lanes account (Some (p, ws)) count blocks.now keys.now masks cells }
 {
     let (n, k, w, v) = (p.n as usize, p.k as usize, p.block_words(), p.key_words());
     if count == 0 || count > lanes as usize {
@@ -75,9 +75,9 @@ fn run_wires<E: Engine>(
 )
     requires sound { TrueInverses p words.now }
     requires wires { (length state.old ≡ p.n) × (length spare.old ≡ p.n) × (length key.now ≡ p.k) × (2 ≤ length sums.old) }
-    requires gates { (acct e.old).done + gates_of p ≤ (acct e.old).granted }
-    ensures lanes { (j : ℕ) → j < E.Engine.lanes → lane j (map means state.new) ≡ along way (set_in p words.now) (lane j (map means key.now)) (lane j (map means state.old)) }
-    ensures spent { Spent (acct e.old) (gates_of p) (acct e.new) }
+    requires gates { (E.acct e.old).done + gates_of p ≤ (E.acct e.old).granted }
+    ensures lanes { (j : ℕ) → j < E.lanes → lane j (map E.means state.new) ≡ along way (set_in p words.now) (lane j (map E.means key.now)) (lane j (map E.means state.old)) }
+    ensures spent { Spent (E.acct e.old) (gates_of p) (E.acct e.new) }
 {
     match way {
         Direction::Encrypt => encrypt_wires(e, words, p, key, state, spare, sums),
@@ -98,14 +98,14 @@ fn run_cells<E: Engine>(
     cells: &mut [E::Wire],
 )
     requires sound { TrueInverses p words.now }
-    requires lanes { count ≤ E.Engine.lanes }
+    requires lanes { count ≤ E.lanes }
     requires sizes { (length blocks.old ≡ count * block_words_of p) × (length keys.now ≡ count * key_words_of p) }
     requires narrow { Below p.n (rows (block_words_of p) count blocks.old) × Below p.k (rows (key_words_of p) count keys.now) }
     requires masks { masks_of p ≤ length masks.now }
     requires cells { length cells.old ≡ cells_of p }
-    requires gates { (acct e.old).done + gates_of p ≤ (acct e.old).granted }
+    requires gates { (E.acct e.old).done + gates_of p ≤ (E.acct e.old).granted }
     ensures blocks { blocks.new ≡ flat (block_words_of p) (one_by_one_of (along way (set_in p words.now)) (rows (key_words_of p) count keys.now) (rows (block_words_of p) count blocks.old)) }
-    ensures spent { Spent (acct e.old) (gates_of p) (acct e.new) }
+    ensures spent { Spent (E.acct e.old) (gates_of p) (E.acct e.new) }
 {
     let (n, w) = (p.n as usize, p.block_words());
     let (state, more) = cells.split_at_mut(n);
@@ -130,15 +130,15 @@ fn run_accepted<E: Engine>(
     cells: &mut [E::Wire],
 )
     requires sound { TrueInverses p words.now }
-    requires lanes { count ≤ E.Engine.lanes }
+    requires lanes { count ≤ E.lanes }
     requires sizes { (length blocks.old ≡ count * block_words_of p) × (length keys.now ≡ count * key_words_of p) }
     requires narrow { Below p.n (rows (block_words_of p) count blocks.old) × Below p.k (rows (key_words_of p) count keys.now) }
     requires masks { masks_of p ≤ length masks.now }
     requires cells { cells_of p ≤ length cells.old }
-    requires gates { (acct e.old).done + gates_of p ≤ (acct e.old).granted }
+    requires gates { (E.acct e.old).done + gates_of p ≤ (E.acct e.old).granted }
     ensures blocks { blocks.new ≡ flat (block_words_of p) (one_by_one_of (along way (set_in p words.now)) (rows (key_words_of p) count keys.now) (rows (block_words_of p) count blocks.old)) }
-    ensures spent { Spent (acct e.old) (gates_of p) (acct e.new) }
-    ensures cells { Cleared means (cells_of p) cells.old cells.new }
+    ensures spent { Spent (E.acct e.old) (gates_of p) (E.acct e.new) }
+    ensures cells { Cleared E.means (cells_of p) cells.old cells.new }
 {
     let used = 3 * p.n as usize + p.k as usize;
     run_cells(
@@ -166,9 +166,9 @@ fn run_batch<E: Engine>(
     masks: &[u64],
     cells: &mut [E::Wire],
 ) -> Result<(), Fault>
-    ensures answer { result ≡ batch_checks lanes (acct engine.old) (held_by held.now) count blocks.old keys.now (length masks.now) (length cells.old) }
+    ensures answer { result ≡ batch_checks E.lanes (E.acct engine.old) (held_by held.now) count blocks.old keys.now (length masks.now) (length cells.old) }
     ensures blocks { blocks.new ≡ blocks_after (along way) (held_by held.now) result count keys.now blocks.old }
-    ensures leaves { Leaves means (held_by held.now) result (acct engine.old) (acct engine.new) cells.old cells.new }
+    ensures leaves { Leaves E.means (held_by held.now) result (E.acct engine.old) (E.acct engine.new) cells.old cells.new }
     ensures stays { is_ok result ≡ false → engine.new ≡ engine.old }
 {
     match held.held() {
@@ -204,9 +204,9 @@ pub fn encrypt<E: Engine>(
     masks: &[u64],
     cells: &mut [E::Wire],
 ) -> Result<(), Fault>
-    ensures answer { result ≡ batch_checks lanes (acct engine.old) (held_by held.now) count blocks.old keys.now (length masks.now) (length cells.old) }
+    ensures answer { result ≡ batch_checks E.lanes (E.acct engine.old) (held_by held.now) count blocks.old keys.now (length masks.now) (length cells.old) }
     ensures blocks { blocks.new ≡ blocks_after enciphered (held_by held.now) result count keys.now blocks.old }
-    ensures leaves { Leaves means (held_by held.now) result (acct engine.old) (acct engine.new) cells.old cells.new }
+    ensures leaves { Leaves E.means (held_by held.now) result (E.acct engine.old) (E.acct engine.new) cells.old cells.new }
     ensures stays { is_ok result ≡ false → engine.new ≡ engine.old }
 {
     run_batch(
@@ -231,9 +231,9 @@ pub fn decrypt<E: Engine>(
     masks: &[u64],
     cells: &mut [E::Wire],
 ) -> Result<(), Fault>
-    ensures answer { result ≡ batch_checks lanes (acct engine.old) (held_by held.now) count blocks.old keys.now (length masks.now) (length cells.old) }
+    ensures answer { result ≡ batch_checks E.lanes (E.acct engine.old) (held_by held.now) count blocks.old keys.now (length masks.now) (length cells.old) }
     ensures blocks { blocks.new ≡ blocks_after deciphered (held_by held.now) result count keys.now blocks.old }
-    ensures leaves { Leaves means (held_by held.now) result (acct engine.old) (acct engine.new) cells.old cells.new }
+    ensures leaves { Leaves E.means (held_by held.now) result (E.acct engine.old) (E.acct engine.new) cells.old cells.new }
     ensures stays { is_ok result ≡ false → engine.new ≡ engine.old }
 {
     run_batch(

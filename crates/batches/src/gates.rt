@@ -8,8 +8,8 @@ use engines::engine::Engine;
 
 // A gate that is known to be left.
 fn and<E: Engine>(e: &mut E, x: E::Wire, y: E::Wire) -> E::Wire
-    requires { (acct e.old).done < (acct e.old).granted }
-    ensures { (means result ≡ bit_and (means x) (means y)) × Spent (acct e.old) 1 (acct e.new) }
+    requires { (E.acct e.old).done < (E.acct e.old).granted }
+    ensures { (E.means result ≡ bit_and (E.means x) (E.means y)) × Spent (E.acct e.old) 1 (E.acct e.new) }
 {
     match e.gate(x, y) {
         Ok(w) => w,
@@ -20,9 +20,9 @@ fn and<E: Engine>(e: &mut E, x: E::Wire, y: E::Wire) -> E::Wire
 // The S-box on the three wires at `at`: a + bc, a + b + ac, a + b + c + ab.
 fn substitute_triple<E: Engine>(e: &mut E, cells: &mut [E::Wire], at: usize)
     requires place { at + 2 < length cells.old }
-    requires gates { (acct e.old).done + 3 ≤ (acct e.old).granted }
-    ensures lanes { (j : ℕ) → lane j (map means cells.new) ≡ box_at at (lane j (map means cells.old)) }
-    ensures spent { Spent (acct e.old) 3 (acct e.new) }
+    requires gates { (E.acct e.old).done + 3 ≤ (E.acct e.old).granted }
+    ensures lanes { (j : ℕ) → lane j (map E.means cells.new) ≡ box_at at (lane j (map E.means cells.old)) }
+    ensures spent { Spent (E.acct e.old) 3 (E.acct e.new) }
 {
     let a = cells[at];
     let b = cells[at + 1];
@@ -40,9 +40,9 @@ fn substitute_triple<E: Engine>(e: &mut E, cells: &mut [E::Wire], at: usize)
 // Its inverse: a + b + bc, b + ac, a + b + c + ab.
 fn unsubstitute_triple<E: Engine>(e: &mut E, cells: &mut [E::Wire], at: usize)
     requires place { at + 2 < length cells.old }
-    requires gates { (acct e.old).done + 3 ≤ (acct e.old).granted }
-    ensures lanes { (j : ℕ) → lane j (map means cells.new) ≡ unbox_at at (lane j (map means cells.old)) }
-    ensures spent { Spent (acct e.old) 3 (acct e.new) }
+    requires gates { (E.acct e.old).done + 3 ≤ (E.acct e.old).granted }
+    ensures lanes { (j : ℕ) → lane j (map E.means cells.new) ≡ unbox_at at (lane j (map E.means cells.old)) }
+    ensures spent { Spent (E.acct e.old) 3 (E.acct e.new) }
 {
     let a = cells[at];
     let b = cells[at + 1];
@@ -60,9 +60,9 @@ fn unsubstitute_triple<E: Engine>(e: &mut E, cells: &mut [E::Wire], at: usize)
 // The substitution of the `m` lowest triples, in every lane.
 pub(crate) fn substitute<E: Engine>(e: &mut E, cells: &mut [E::Wire], m: usize)
     requires places { 3 * m ≤ length cells.old }
-    requires gates { (acct e.old).done + 3 * m ≤ (acct e.old).granted }
-    ensures lanes { (j : ℕ) → lane j (map means cells.new) ≡ substitution m (lane j (map means cells.old)) }
-    ensures spent { Spent (acct e.old) (3 * m) (acct e.new) }
+    requires gates { (E.acct e.old).done + 3 * m ≤ (E.acct e.old).granted }
+    ensures lanes { (j : ℕ) → lane j (map E.means cells.new) ≡ substitution m (lane j (map E.means cells.old)) }
+    ensures spent { Spent (E.acct e.old) (3 * m) (E.acct e.new) }
 {
     for t in 0..m {
         substitute_triple(e, cells, 3 * t);
@@ -72,9 +72,9 @@ pub(crate) fn substitute<E: Engine>(e: &mut E, cells: &mut [E::Wire], m: usize)
 // The inverse of `substitute`.
 pub(crate) fn unsubstitute<E: Engine>(e: &mut E, cells: &mut [E::Wire], m: usize)
     requires places { 3 * m ≤ length cells.old }
-    requires gates { (acct e.old).done + 3 * m ≤ (acct e.old).granted }
-    ensures lanes { (j : ℕ) → lane j (map means cells.new) ≡ unsubstitution m (lane j (map means cells.old)) }
-    ensures spent { Spent (acct e.old) (3 * m) (acct e.new) }
+    requires gates { (E.acct e.old).done + 3 * m ≤ (E.acct e.old).granted }
+    ensures lanes { (j : ℕ) → lane j (map E.means cells.new) ≡ unsubstitution m (lane j (map E.means cells.old)) }
+    ensures spent { Spent (E.acct e.old) (3 * m) (E.acct e.new) }
 {
     for t in 0..m {
         unsubstitute_triple(e, cells, 3 * t);

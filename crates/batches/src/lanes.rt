@@ -30,9 +30,9 @@ pub(crate) fn load<E: Engine>(
     cells: &mut [E::Wire],
 )
     requires fits { count * w ≤ length blocks.now }
-    requires lanes { count ≤ E.Engine.lanes }
+    requires lanes { count ≤ E.lanes }
     requires masks { length cells.old ≤ length masks.now }
-    ensures { map means cells.new ≡ columns (length cells.old) (rows w count blocks.now) }
+    ensures { map E.means cells.new ≡ columns (length cells.old) (rows w count blocks.now) }
 {
     for i in 0..cells.len() {
         cells[i] = e.enter(gather(blocks, w, count, i), masks[i]);
@@ -43,7 +43,7 @@ pub(crate) fn load<E: Engine>(
 fn read_lane<E: Engine>(e: &E, cells: &[E::Wire], j: usize, block: &mut [u64])
     requires place { j < 64 }
     requires room { length cells.now ≤ 64 * length block.old }
-    ensures { value block.new ≡ lane j (map means cells.now) }
+    ensures { value block.new ≡ lane j (map E.means cells.now) }
 {
     block.fill(0);
     for i in 0..cells.len() {
@@ -63,7 +63,7 @@ pub(crate) fn unload<E: Engine>(
     requires size { length blocks.old ≡ count * w }
     requires lanes { count ≤ 64 }
     requires room { length cells.now ≤ 64 * w }
-    ensures { blocks.new ≡ flat w (columns count (map means cells.now)) }
+    ensures { blocks.new ≡ flat w (columns count (map E.means cells.now)) }
 {
     for j in 0..count {
         let start = j * w;

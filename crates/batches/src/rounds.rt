@@ -31,9 +31,9 @@ fn forward<E: Engine>(
     requires keyed { at.key + p.n * key_words_of p ≤ length words.now }
     requires narrow { constant_at (block_words_of p) at.constant words.now < 2 ^ p.n }
     requires triples { 3 * p.m ≤ p.n }
-    requires gates { (acct e.old).done + 3 * p.m ≤ (acct e.old).granted }
-    ensures lanes { (j : ℕ) → j < E.Engine.lanes → lane j (map means state.new) ≡ rounded p.m (lane j (map means key.now)) (matrix_at (block_words_of p) p.n at.layer words.now) (constant_at (block_words_of p) at.constant words.now) (matrix_at (key_words_of p) p.n at.key words.now) (lane j (map means state.old)) }
-    ensures spent { Spent (acct e.old) (3 * p.m) (acct e.new) }
+    requires gates { (E.acct e.old).done + 3 * p.m ≤ (E.acct e.old).granted }
+    ensures lanes { (j : ℕ) → j < E.lanes → lane j (map E.means state.new) ≡ rounded p.m (lane j (map E.means key.now)) (matrix_at (block_words_of p) p.n at.layer words.now) (constant_at (block_words_of p) at.constant words.now) (matrix_at (key_words_of p) p.n at.key words.now) (lane j (map E.means state.old)) }
+    ensures spent { Spent (E.acct e.old) (3 * p.m) (E.acct e.new) }
 {
     let w = p.block_words();
     let c = at.constant;
@@ -61,9 +61,9 @@ fn backward<E: Engine>(
     requires keyed { at.key + p.n * key_words_of p ≤ length words.now }
     requires narrow { constant_at (block_words_of p) at.constant words.now < 2 ^ p.n }
     requires triples { 3 * p.m ≤ p.n }
-    requires gates { (acct e.old).done + 3 * p.m ≤ (acct e.old).granted }
-    ensures lanes { (j : ℕ) → j < E.Engine.lanes → lane j (map means state.new) ≡ unround_by p.m (lane j (map means key.now)) (matrix_at (block_words_of p) p.n at.inverse words.now) (constant_at (block_words_of p) at.constant words.now) (matrix_at (key_words_of p) p.n at.key words.now) (lane j (map means state.old)) }
-    ensures spent { Spent (acct e.old) (3 * p.m) (acct e.new) }
+    requires gates { (E.acct e.old).done + 3 * p.m ≤ (E.acct e.old).granted }
+    ensures lanes { (j : ℕ) → j < E.lanes → lane j (map E.means state.new) ≡ unround_by p.m (lane j (map E.means key.now)) (matrix_at (block_words_of p) p.n at.inverse words.now) (constant_at (block_words_of p) at.constant words.now) (matrix_at (key_words_of p) p.n at.key words.now) (lane j (map E.means state.old)) }
+    ensures spent { Spent (E.acct e.old) (3 * p.m) (E.acct e.new) }
 {
     let w = p.block_words();
     let c = at.constant;
@@ -87,9 +87,9 @@ pub(crate) fn encrypt_wires<E: Engine>(
 )
     requires sound { TrueInverses p words.now }
     requires wires { (length state.old ≡ p.n) × (length spare.old ≡ p.n) × (length key.now ≡ p.k) × (2 ≤ length sums.old) }
-    requires gates { (acct e.old).done + gates_of p ≤ (acct e.old).granted }
-    ensures lanes { (j : ℕ) → j < E.Engine.lanes → lane j (map means state.new) ≡ enciphered (set_in p words.now) (lane j (map means key.now)) (lane j (map means state.old)) }
-    ensures spent { Spent (acct e.old) (gates_of p) (acct e.new) }
+    requires gates { (E.acct e.old).done + gates_of p ≤ (E.acct e.old).granted }
+    ensures lanes { (j : ℕ) → j < E.lanes → lane j (map E.means state.new) ≡ enciphered (set_in p words.now) (lane j (map E.means key.now)) (lane j (map E.means state.old)) }
+    ensures spent { Spent (E.acct e.old) (gates_of p) (E.acct e.new) }
 {
     product(e, words, keys_from(p), p.key_words(), key, spare, sums);
     add_wires(e, state, spare);
@@ -110,9 +110,9 @@ pub(crate) fn decrypt_wires<E: Engine>(
 )
     requires sound { TrueInverses p words.now }
     requires wires { (length state.old ≡ p.n) × (length spare.old ≡ p.n) × (length key.now ≡ p.k) × (2 ≤ length sums.old) }
-    requires gates { (acct e.old).done + gates_of p ≤ (acct e.old).granted }
-    ensures lanes { (j : ℕ) → j < E.Engine.lanes → lane j (map means state.new) ≡ deciphered (set_in p words.now) (lane j (map means key.now)) (lane j (map means state.old)) }
-    ensures spent { Spent (acct e.old) (gates_of p) (acct e.new) }
+    requires gates { (E.acct e.old).done + gates_of p ≤ (E.acct e.old).granted }
+    ensures lanes { (j : ℕ) → j < E.lanes → lane j (map E.means state.new) ≡ deciphered (set_in p words.now) (lane j (map E.means key.now)) (lane j (map E.means state.old)) }
+    ensures spent { Spent (E.acct e.old) (gates_of p) (E.acct e.new) }
 {
     let r = p.r as usize;
     for i in 0..r {

@@ -42,7 +42,7 @@ fn highest(t: usize) -> usize
 
 // The wire at `i`, or one that carries 0 past the end.
 fn wire_at<E: Engine>(e: &E, from: &[E::Wire], i: usize) -> E::Wire
-    ensures { means result ≡ slice_index (map means from.now) i }
+    ensures { E.means result ≡ slice_index (map E.means from.now) i }
 {
     if i < from.len() {
         from[i]
@@ -55,7 +55,7 @@ fn wire_at<E: Engine>(e: &E, from: &[E::Wire], i: usize) -> E::Wire
 fn sum_ways<E: Engine>(e: &E, from: &[E::Wire], b: usize, sums: &mut [E::Wire])
     requires room { 2 ^ b ≤ length sums.old }
     requires few { b ≤ 4 }
-    ensures { (t : ℕ) → t < 2 ^ b → slice_index (map means sums.new) t ≡ comb (map means from.now) t }
+    ensures { (t : ℕ) → t < 2 ^ b → slice_index (map E.means sums.new) t ≡ comb (map E.means from.now) t }
 {
     sums[0] = e.enter(0, 0);
     for t in 1..1 << b {
@@ -79,7 +79,7 @@ fn add_group<E: Engine>(
     requires room { 2 ^ b ≤ length sums.now }
     requires whole { (1 ≤ b) × (b ≤ 4) × (b * (64 / b) ≡ 64) }
     requires place { b * g < 64 * w }
-    ensures { map means to.new ≡ table (length to.old) (λ i. bit_xor (slice_index (map means to.old) i) (slice_index (map means sums.now) (row_at w (drop at words.now) i / 2 ^ (b * g) % 2 ^ b))) }
+    ensures { map E.means to.new ≡ table (length to.old) (λ i. bit_xor (slice_index (map E.means to.old) i) (slice_index (map E.means sums.now) (row_at w (drop at words.now) i / 2 ^ (b * g) % 2 ^ b))) }
 {
     let in_word = 64 / b;
     let word = g / in_word;
@@ -105,7 +105,7 @@ pub(crate) fn product<E: Engine>(
     requires fits { at + length to.old * w ≤ length words.now }
     requires wide { length from.now ≤ 64 * w }
     requires room { 2 ≤ length sums.old }
-    ensures { map means to.new ≡ times (rows w (length to.old) (drop at words.now)) (map means from.now) }
+    ensures { map E.means to.new ≡ times (rows w (length to.old) (drop at words.now)) (map E.means from.now) }
 {
     clear(e, to);
     let b = group_size(sums.len());
@@ -118,7 +118,7 @@ pub(crate) fn product<E: Engine>(
 // Adds the wires `from` to the wires `to`.
 pub(crate) fn add_wires<E: Engine>(e: &E, to: &mut [E::Wire], from: &[E::Wire])
     requires { length to.old ≡ length from.now }
-    ensures { (v : ℕ) → mul (map means to.new) v ≡ bit_xor (mul (map means to.old) v) (mul (map means from.now) v) }
+    ensures { (v : ℕ) → mul (map E.means to.new) v ≡ bit_xor (mul (map E.means to.old) v) (mul (map E.means from.now) v) }
 {
     for i in 0..to.len() {
         to[i] = e.add(to[i], from[i]);
@@ -135,7 +135,7 @@ fn spread(constant: &[u64], i: usize) -> u64
 // Adds the constant to the block in each lane.
 pub(crate) fn add_constant<E: Engine>(e: &E, to: &mut [E::Wire], constant: &[u64])
     requires { value constant.now < 2 ^ length to.old }
-    ensures { (j : ℕ) → j < E.Engine.lanes → lane j (map means to.new) ≡ bit_xor (lane j (map means to.old)) (value constant.now) }
+    ensures { (j : ℕ) → j < E.lanes → lane j (map E.means to.new) ≡ bit_xor (lane j (map E.means to.old)) (value constant.now) }
 {
     for i in 0..to.len() {
         let c = e.enter(spread(constant, i), 0);
@@ -145,7 +145,7 @@ pub(crate) fn add_constant<E: Engine>(e: &E, to: &mut [E::Wire], constant: &[u64
 
 // Makes each cell carry 0 in every lane.
 pub(crate) fn clear<E: Engine>(e: &E, cells: &mut [E::Wire])
-    ensures { map means cells.new ≡ replicate (length cells.old) 0 }
+    ensures { map E.means cells.new ≡ replicate (length cells.old) 0 }
 {
     for i in 0..cells.len() {
         cells[i] = e.enter(0, 0);

@@ -1,6 +1,6 @@
 -- What holds of the cipher.
 use Rattle.std.specs.Prelude.{◌≡◌, ℕ, ◌+◌, ◌*◌, ◌/◌, ◌%◌, ◌^◌, ◌<◌, ◌≤◌, ◌≢◌, ◌⊎◌, List, [], ◌∷◌, map}
-use Rattle.bits.specs.Gf2.{Collapses, Inverse, inverse_of}
+use Rattle.bits.specs.Gf2.{Collapses, Inverse, Witness, inverse_of}
 use Rattle.cipher.specs.Parameters.{params}
 use Rattle.cipher.specs.Sets.{Each, LawfulSet, Set}
 use Rattle.cipher.specs.LowMC.{decrypt, encrypt, s_a, s_b, s_c, substitution, unsubstitution}
@@ -70,3 +70,15 @@ collapsing = sample_with (1 ∷ 1 ∷ 4 ∷ [])
 -- the S-box on a triple written 4a + 2b + c
 abbrev pub box_table : ℕ → ℕ
 box_table v = 4 * s_a (v / 4) (v / 2 % 2) (v % 2) + 2 * s_b (v / 4) (v / 2 % 2) (v % 2) + s_c (v / 4) (v / 2 % 2) (v % 2)
+
+pub record Examples : Type 0 where
+  pub box : map box_table (0 ∷ 1 ∷ 2 ∷ 3 ∷ 4 ∷ 5 ∷ 6 ∷ 7 ∷ []) ≡ 0 ∷ 1 ∷ 3 ∷ 6 ∷ 7 ∷ 4 ∷ 5 ∷ 2 ∷ []
+  pub inverse : inverse_of (2 ∷ 4 ∷ 1 ∷ []) ≡ 4 ∷ 1 ∷ 2 ∷ []
+  pub one : encrypt sample 0 1 ≡ 6
+  pub none : encrypt sample 0 0 ≡ 1
+  pub keyed : encrypt sample 7 0 ≡ 7
+  pub back : decrypt sample 0 6 ≡ 1
+  pub witness : Witness (1 ∷ 1 ∷ 4 ∷ []) 2
+  pub lost_none : encrypt collapsing 0 0 ≡ 1
+  pub lost_seven : encrypt collapsing 0 7 ≡ 1
+  pub rest_stays : substitution 1 9 ≡ 15

@@ -1,5 +1,5 @@
 // The laws of the cipher, as facts that this crate is refused without.
-ghost use Rattle.cipher.specs.Laws.{Collapse, Decryption, Undone};
+ghost use Rattle.cipher.specs.Laws.{Collapse, Decryption, Examples, Undone};
 
 // The substitution layer and its inverse undo each other, on any number of triples, and a state of n bits stays one.
 pub fn substitution_stands() -> u8
@@ -18,6 +18,13 @@ pub fn decryption_stands() -> u8
 // Of a lawful set, some layer takes a vector other than zero to zero exactly when some key gives two different blocks one ciphertext.
 pub fn collapse_stands() -> u8
     ensures { Collapse }
+{
+    0
+}
+
+// Worked examples: the S-box as a table, and small sets, one of which collapses.
+pub fn examples_stand() -> u8
+    ensures { Examples }
 {
     0
 }

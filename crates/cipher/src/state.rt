@@ -1,9 +1,16 @@
 // The state of a block in words, and the substitution layer on it. No function here branches or indexes on what a state holds.
 ghost use Rattle.std.specs.Prelude.{◌≡◌, ◌*◌, ◌^◌, ◌<◌, ◌≤◌, length, bit_xor};
-ghost use Rattle.bits.specs.Gf2.{value};
+ghost use Rattle.bits.specs.Gf2.{Words, value};
 ghost use Rattle.cipher.specs.LowMC.{substitution, unsubstitution};
 
-use bits::words::{bit, fitting};
+use bits::words::bit;
+
+// Does nothing but say that each word is below 2^64: a proof knows that of a shared slice, and not of one that was written to.
+pub(crate) fn fitting(v: &[u64])
+    ensures { Words v.now }
+{
+    let _none = v.is_empty();
+}
 
 // Adds `on`, which is 0 or 1, to bit `j` of a vector.
 pub(crate) fn flip(s: &mut [u64], j: usize, on: u64)

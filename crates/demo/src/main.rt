@@ -1,8 +1,6 @@
 // A demonstration: reads a set file from standard input, opens the set, encrypts a block, decrypts it again, and prints each step; then it draws a
-// set of its own from the Grain source and does the same with that; then two towns count the readers that they have in common.
+// set of its own from the Grain source and does the same with that.
 #![tactic(auto)]
-mod towns;
-
 use bits::refusal::Fault;
 use cipher::instance::Instance;
 use cipher::params::Params;
@@ -11,7 +9,6 @@ use drawing::grain::GrainSource;
 use files::reading::read;
 use input::read_front;
 use std::io;
-use towns::show_towns;
 
 // How much of the input is looked at, and the words that there are for the set.
 const MOST_BYTES: usize = 65536;
@@ -98,5 +95,5 @@ fn main(rt: HostRuntime) -> anyhow::Result<()> {
     let got = read_front(&mut rt.stdin(), &mut buffer)?;
     show_set(&rt, &buffer[..got])?;
     show_drawn(&rt)?;
-    show_towns(&rt)
+    Ok(())
 }

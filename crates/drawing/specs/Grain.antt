@@ -49,3 +49,7 @@ grain s i = nth i (given 80 s)
 abbrev pub new_bits : ℕ → ℕ → List ℕ
 new_bits zero s = []
 new_bits (suc n) s = new_bit_of s ∷ new_bits n (shift s)
+
+-- of the new bits, counted from the very start, the first eighteen are 0 and the nineteenth is 1
+pub record GrainExample : Type 0 where
+  pub start : new_bits 19 ones ≡ 0 ∷ 0 ∷ 0 ∷ 0 ∷ 0 ∷ 0 ∷ 0 ∷ 0 ∷ 0 ∷ 0 ∷ 0 ∷ 0 ∷ 0 ∷ 0 ∷ 0 ∷ 0 ∷ 0 ∷ 0 ∷ 1 ∷ []

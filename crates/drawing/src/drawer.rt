@@ -24,7 +24,7 @@ fn draw_row<S: BitSource>(
 ) -> Result<usize, Fault>
     requires room { count ≤ 64 * length out.old }
     requires small { taken + count < 2 ^ 64 }
-    ensures drew { (f : Stream) → Sees f (meaning source.old) taken → Took f (row f count taken) (λ x. (x < 2 ^ count) × (out.new ≡ words_of (length out.old) x)) result (meaning source.new) }
+    ensures drew { (f : Stream) → Sees f (S.meaning source.old) taken → Took f (row f count taken) (λ x. (x < 2 ^ count) × (out.new ≡ words_of (length out.old) x)) result (S.meaning source.new) }
     ensures moved { IfOk result (λ at. at ≡ taken + count) }
 {
     out.fill(0);
@@ -51,7 +51,7 @@ fn draw_matrix<S: BitSource>(
 ) -> Result<usize, Fault>
     requires size { length out.old ≡ count * width_of k }
     requires small { taken + count * k < 2 ^ 64 }
-    ensures drew { (f : Stream) → Sees f (meaning source.old) taken → Took f (matrix f count k taken) (λ M. Matrix count k M × (out.new ≡ flat (width_of k) M)) result (meaning source.new) }
+    ensures drew { (f : Stream) → Sees f (S.meaning source.old) taken → Took f (matrix f count k taken) (λ M. Matrix count k M × (out.new ≡ flat (width_of k) M)) result (S.meaning source.new) }
     ensures moved { IfOk result (λ at. at ≡ taken + count * k) }
 {
     let w = width(k);
@@ -75,7 +75,7 @@ fn draw_layer<S: BitSource>(
     requires size { length layer.old ≡ n * width_of n }
     requires room { length inverse.old ≡ n * width_of n }
     requires small { taken + 2 ^ 24 < 2 ^ 64 }
-    ensures drew { (f : Stream) → Sees f (meaning source.old) taken → Took f (kept_layer f n taken) (λ L. Matrix n n L × Invertible L × (layer.new ≡ flat (width_of n) L) × (inverse.new ≡ flat (width_of n) (inverse_of L))) result (meaning source.new) }
+    ensures drew { (f : Stream) → Sees f (S.meaning source.old) taken → Took f (kept_layer f n taken) (λ L. Matrix n n L × Invertible L × (layer.new ≡ flat (width_of n) L) × (inverse.new ≡ flat (width_of n) (inverse_of L))) result (S.meaning source.new) }
     ensures moved { IfOk result (λ at. at ≤ taken + 2 ^ 24) }
 {
     let w = width(n);
@@ -105,7 +105,7 @@ fn draw_key<S: BitSource>(
     requires wide { k ≤ 256 }
     requires size { length out.old ≡ n * width_of k }
     requires small { taken + 2 ^ 24 < 2 ^ 64 }
-    ensures drew { (f : Stream) → Sees f (meaning source.old) taken → Took f (kept_key f n k taken) (λ K. Matrix n k K × Independent K × (out.new ≡ flat (width_of k) K)) result (meaning source.new) }
+    ensures drew { (f : Stream) → Sees f (S.meaning source.old) taken → Took f (kept_key f n k taken) (λ K. Matrix n k K × Independent K × (out.new ≡ flat (width_of k) K)) result (S.meaning source.new) }
     ensures moved { IfOk result (λ at. at ≤ taken + 2 ^ 24) }
 {
     let v = width(k);
@@ -144,7 +144,7 @@ fn draw_layers_in<S: BitSource>(
     requires size { length words.old ≡ second + rounds * (n * width_of n) }
     requires layer { length layer.old ≡ n * width_of n }
     requires inverse { length inverse.old ≡ n * width_of n }
-    ensures drew { (f : Stream) → Sees f (meaning source.old) 0 → Took f (several (kept_layer f n) rounds 0) (λ Ls. Layers n rounds Ls × (take (rounds * (n * width_of n)) words.new ≡ flat (width_of n) (joined Ls)) × (drop second words.new ≡ flat (width_of n) (joined (map inverse_of Ls)))) result (meaning source.new) }
+    ensures drew { (f : Stream) → Sees f (S.meaning source.old) 0 → Took f (several (kept_layer f n) rounds 0) (λ Ls. Layers n rounds Ls × (take (rounds * (n * width_of n)) words.new ≡ flat (width_of n) (joined Ls)) × (drop second words.new ≡ flat (width_of n) (joined (map inverse_of Ls)))) result (S.meaning source.new) }
     ensures moved { IfOk result (λ at. at ≤ 255 * 2 ^ 24) }
 {
     let size = layer.len();
@@ -169,7 +169,7 @@ fn draw_layers<S: BitSource>(
     requires few { rounds ≤ 255 }
     requires front { rounds * (n * width_of n) ≤ second }
     requires size { length words.old ≡ second + rounds * (n * width_of n) }
-    ensures drew { (f : Stream) → Sees f (meaning source.old) 0 → Took f (several (kept_layer f n) rounds 0) (λ Ls. Layers n rounds Ls × (take (rounds * (n * width_of n)) words.new ≡ flat (width_of n) (joined Ls)) × (drop second words.new ≡ flat (width_of n) (joined (map inverse_of Ls)))) result (meaning source.new) }
+    ensures drew { (f : Stream) → Sees f (S.meaning source.old) 0 → Took f (several (kept_layer f n) rounds 0) (λ Ls. Layers n rounds Ls × (take (rounds * (n * width_of n)) words.new ≡ flat (width_of n) (joined Ls)) × (drop second words.new ≡ flat (width_of n) (joined (map inverse_of Ls)))) result (S.meaning source.new) }
     ensures moved { IfOk result (λ at. at ≤ 255 * 2 ^ 24) }
 {
     let size = n * width(n);
@@ -200,7 +200,7 @@ fn draw_keys<S: BitSource>(
     requires few { count ≤ 256 }
     requires size { length out.old ≡ count * (n * width_of k) }
     requires small { taken ≤ 2 ^ 33 }
-    ensures { (f : Stream) → Sees f (meaning source.old) taken → Took f (several (kept_key f n k) count taken) (λ Ks. Keys n k count Ks × (out.new ≡ flat (width_of k) (joined Ks))) result (meaning source.new) }
+    ensures { (f : Stream) → Sees f (S.meaning source.old) taken → Took f (several (kept_key f n k) count taken) (λ Ks. Keys n k count Ks × (out.new ≡ flat (width_of k) (joined Ks))) result (S.meaning source.new) }
 {
     let size = n * width(k);
     let mut at = taken;
@@ -219,7 +219,7 @@ fn draw_parts<S: BitSource>(
 ) -> Result<usize, Fault>
     requires lawful { Lawful params }
     requires size { length words.old ≡ prepared_words_of params }
-    ensures { (f : Stream) → Sees f (meaning source.old) 0 → Took f (drawn_set f params) (λ s. SoundSet s × (words.new ≡ prepared s)) result (meaning source.new) }
+    ensures { (f : Stream) → Sees f (S.meaning source.old) 0 → Took f (drawn_set f params) (λ s. SoundSet s × (words.new ≡ prepared s)) result (S.meaning source.new) }
 {
     let n = params.n as usize;
     let k = params.k as usize;
@@ -235,8 +235,8 @@ fn draw_parts<S: BitSource>(
 // Draws a set and writes it as reading a set file would: all layers, all constants, all key matrices, all inverses. Later words are left.
 // Where the bits end or a matrix is not kept in 255 draws, the words of the set are zero; at the other refusals nothing has changed.
 pub fn draw<S: BitSource>(params: Params, source: &mut S, words: &mut [u64]) -> Result<u64, Fault>
-    ensures drew { Draws params (meaning source.old) words.old (ready params (length words.old)) result words.new (meaning source.new) }
-    ensures opens { Opens params (meaning source.old) result words.new }
+    ensures drew { Draws params (S.meaning source.old) words.old (ready params (length words.old)) result words.new (S.meaning source.new) }
+    ensures opens { Opens params (S.meaning source.old) result words.new }
 {
     params.check()?;
     if params.k < params.n {

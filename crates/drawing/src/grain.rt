@@ -1,6 +1,6 @@
 // Bits from a register that makes its own: a self-shrinking generator over a linear feedback shift register.
 ghost use Rattle.std.specs.Prelude.{◌≡◌, ℕ, ◌^◌, ◌<◌};
-ghost use Rattle.drawing.specs.Grain.{begun, grain, new_bit_of, shift};
+ghost use Rattle.drawing.specs.Grain.{GrainExample, begun, grain, new_bit_of, shift};
 ghost use Rattle.drawing.specs.Digits.{grain_digits};
 
 use crate::source::BitSource;
@@ -64,4 +64,11 @@ impl BitSource for GrainSource {
         }
         None
     }
+}
+
+// The first eighteen new bits are 0, and the nineteenth is 1.
+pub fn grain_stands() -> u8
+    ensures { GrainExample }
+{
+    0
 }

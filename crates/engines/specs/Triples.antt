@@ -59,3 +59,7 @@ shares_of x y t =
     let d : ℕ = bit_xor (bit_xor x.0 x.1) (bit_xor t.a0 t.a1) in
     let e : ℕ = bit_xor (bit_xor y.0 y.1) (bit_xor t.b0 t.b1) in
     (first_share d e t, second_share d e t)
+
+-- 1 in shares (1, 0) times 1 in shares (0, 1), with the triple 1 0 0 0 1 1, is 1 in shares (0, 1)
+abbrev pub WorkedExample : Type 0
+WorkedExample = shares_of (1, 0) (0, 1) (record { a0 = 1; b0 = 0; c0 = 0; a1 = 0; b1 = 1; c1 = 1 }) ≡ (0, 1)

@@ -3,7 +3,7 @@ ghost use Rattle.std.specs.Prelude.{◌≡◌, ℕ, ◌+◌, ◌-◌, ◌*◌, �
 ghost use Rattle.std.proofs.lemmas.Nat.{xor_lt};
 ghost use Rattle.std.proofs.Common.{lit≤};
 ghost use Rattle.engines.specs.Accounts.{Kept, new_account, Spent, Dry, Granted, Full};
-ghost use Rattle.engines.specs.Triples.{AllTrue, IsTrueTriple, check_from, filling, shares_of, triple_of, truth};
+ghost use Rattle.engines.specs.Triples.{AllTrue, IsTrueTriple, WorkedExample, check_from, filling, shares_of, triple_of, truth};
 
 use crate::engine::{Account, Engine};
 use bits::refusal::{Fault, Layer, Refusal};
@@ -100,6 +100,13 @@ pub fn product(x: Shares, y: Shares, triple: Triple) -> Shares
     let s0 = triple.c0 ^ (d & triple.b0) ^ (e & triple.a0) ^ (d & e);
     let s1 = triple.c1 ^ (d & triple.b1) ^ (e & triple.a1);
     Shares::of(s0, s1)
+}
+
+// A worked example of a product, as a fact that this crate is refused without.
+pub fn worked_example_stands() -> u8
+    ensures { WorkedExample }
+{
+    0
 }
 
 impl<'a> ShareEngine<'a> {

@@ -45,14 +45,13 @@ fn front(file: &[u8]) -> &[u8]
     }
 }
 
-// What reading says of the first bytes of a file; a fault travels up as it is.
-fn judge(file: &[u8]) -> Result<Params, Fault>
-    ensures { Judged (take 65536 file.now) result }
+// What reading says of the first bytes of a file.
+fn judge(file: &[u8]) -> Verdict
+    ensures { Judged (take 65536 file.now) result.0 }
 {
     let mut words = [0u64; SET_WORDS];
     let mut witness = [0u64; 4];
-    let params = read(front(file), &mut words, &mut witness)?;
-    Ok(params)
+    Verdict(read(front(file), &mut words, &mut witness))
 }
 
 // A verdict as a line.
@@ -66,5 +65,5 @@ fn line(heap: Global, verdict: Verdict) -> Result<String, AllocError>
 pub fn report(heap: Global, file: &[u8]) -> Result<String, AllocError>
     ensures { IfOk result (λ s. Reported (take 65536 file.now) (string_bytes s)) }
 {
-    line(heap, Verdict(judge(file)))
+    line(heap, judge(file))
 }

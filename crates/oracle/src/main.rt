@@ -1,68 +1,103 @@
-// One case for the comparison with the second implementation, on standard input; the answer is one line. The first byte says which kind it is.
-//
-// `C`, the cipher: a key and a block, 32 bytes each, lowest first, and then a set file. The answer is the block encrypted, then the block decrypted, as
-// words, or the number and place of the first refusal.
-//
-// `D`, drawing: n, k, m and r, two bytes each, high byte first; how many words are lent, two bytes, high byte first, of which there are 8192 at most and
-// each is 7; then `T` and the bytes of a tape, or `G` for the Grain source. The answer is `OK` and the bits taken, or `NO` with the number and place of the
-// refusal; what the source gives when it is asked once more, or `-` where it is dry; and all words that were lent.
-//
-// What is no case gets the answer `NO 0 0`.
+// One case for the comparison with the second implementation. Standard input has a key and a block, 32 bytes each, lowest first, and then a set
+// file; the answer is one line: the block encrypted, then the block decrypted, as words, or the number and place of the first refusal.
 #![tactic(auto)]
-mod blocks;
-mod drawn;
-
-use blocks::answer_block;
+use bits::refusal::Fault;
+use cipher::instance::Instance;
 use cipher::params::Params;
-use drawn::{answer_grain, answer_tape};
+use files::reading::read;
 use input::read_front;
 use std::io;
 
-// How much of the input is looked at.
-const MOST_BYTES: usize = 65601;
+// How much of the input is looked at, and the words that there are for the set.
+const MOST_BYTES: usize = 65600;
 
-fn print_none(rt: &HostRuntime) -> io::Result<()> {
-    println!(rt; "NO 0 0")
+const SET_WORDS: usize = 8192;
+
+fn print_refusal(rt: &HostRuntime, fault: Fault) -> io::Result<()> {
+    let number = fault.refusal.number();
+    println!(rt; "NO {} {}", number, fault.place)
 }
 
-fn cipher_case(rt: &HostRuntime, rest: &[u8]) -> io::Result<()> {
-    if rest.len() < 64 {
-        return print_none(rt);
-    }
-    answer_block(rt, rest)
+// The byte at a place, 0 past the end.
+fn byte(bytes: &[u8], at: usize) -> u8 {
+    if at < bytes.len() { bytes[at] } else { 0 }
 }
 
-// The number of two bytes, high byte first.
-fn pair(high: u8, low: u8) -> u16 {
-    u16::from_be_bytes([high, low])
+// The word of eight bytes, lowest first; `i` is 0 to 7.
+fn word(bytes: &[u8], i: u8) -> u64 {
+    let at = 8 * i as usize;
+    u64::from_le_bytes([
+        byte(bytes, at),
+        byte(bytes, at + 1),
+        byte(bytes, at + 2),
+        byte(bytes, at + 3),
+        byte(bytes, at + 4),
+        byte(bytes, at + 5),
+        byte(bytes, at + 6),
+        byte(bytes, at + 7),
+    ])
 }
 
-fn drawing_case(rt: &HostRuntime, rest: &[u8]) -> io::Result<()> {
-    if rest.len() < 11 {
-        return print_none(rt);
+fn print_words(rt: &HostRuntime, words: &[u64]) -> io::Result<()> {
+    for x in words {
+        print!(rt; "{x} ")?;
     }
-    let params = Params {
-        n: pair(rest[0], rest[1]),
-        k: pair(rest[2], rest[3]),
-        m: pair(rest[4], rest[5]),
-        r: pair(rest[6], rest[7]),
-    };
-    let room = pair(rest[8], rest[9]) as usize;
-    match rest[10] {
-        b'T' => answer_tape(rt, params, room, &rest[11..]),
-        b'G' => answer_grain(rt, params, room),
-        _ => print_none(rt),
+    Ok(())
+}
+
+fn answer(
+    rt: &HostRuntime,
+    held: &Instance,
+    key: &[u64],
+    block: &mut [u64],
+    again: &mut [u64],
+) -> io::Result<()> {
+    let mut work = [0u64; 8];
+    if let Err(fault) = held.encrypt(key, block, &mut work) {
+        return print_refusal(rt, fault);
     }
+    if let Err(fault) = held.decrypt(key, again, &mut work) {
+        return print_refusal(rt, fault);
+    }
+    print_words(rt, block)?;
+    print_words(rt, again)?;
+    println!(rt; "")
+}
+
+fn run(rt: &HostRuntime, params: Params, words: &[u64], input: &[u8]) -> io::Result<()> {
+    let mut held = Instance::empty();
+    if let Err(fault) = held.open(params, words) {
+        return print_refusal(rt, fault);
+    }
+    let key = [
+        word(input, 0),
+        word(input, 1),
+        word(input, 2),
+        word(input, 3),
+    ];
+    let mut block = [
+        word(input, 4),
+        word(input, 5),
+        word(input, 6),
+        word(input, 7),
+    ];
+    let mut again = [
+        word(input, 4),
+        word(input, 5),
+        word(input, 6),
+        word(input, 7),
+    ];
+    let (w, v) = (params.block_words().min(4), params.key_words().min(4));
+    answer(rt, &held, &key[..v], &mut block[..w], &mut again[..w])
 }
 
 fn case(rt: &HostRuntime, input: &[u8]) -> io::Result<()> {
-    if input.is_empty() {
-        return print_none(rt);
-    }
-    match input[0] {
-        b'C' => cipher_case(rt, &input[1..]),
-        b'D' => drawing_case(rt, &input[1..]),
-        _ => print_none(rt),
+    let mut words = [0u64; SET_WORDS];
+    let mut witness = [0u64; 4];
+    let from = input.len().min(64);
+    match read(&input[from..], &mut words, &mut witness) {
+        Ok(params) => run(rt, params, &words, input),
+        Err(fault) => print_refusal(rt, fault),
     }
 }
 

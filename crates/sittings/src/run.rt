@@ -10,7 +10,7 @@ use engines::engine::Engine;
 
 // Encrypts a batch in place.
 fn encrypt_one<E: Engine>(engine: &mut E, batch: &mut Batch<'_, E::Wire>) -> Result<(), Fault>
-    ensures { Coded E.Engine.means E.Engine.lanes Encrypt (E.Engine.acct engine.old) batch.old batch.new result (E.Engine.acct engine.new) }
+    ensures { Coded E.means E.lanes Encrypt (E.acct engine.old) batch.old batch.new result (E.acct engine.new) }
 {
     let Batch {
         held,
@@ -25,7 +25,7 @@ fn encrypt_one<E: Engine>(engine: &mut E, batch: &mut Batch<'_, E::Wire>) -> Res
 
 // Decrypts a batch in place.
 fn decrypt_one<E: Engine>(engine: &mut E, batch: &mut Batch<'_, E::Wire>) -> Result<(), Fault>
-    ensures { Coded E.Engine.means E.Engine.lanes Decrypt (E.Engine.acct engine.old) batch.old batch.new result (E.Engine.acct engine.new) }
+    ensures { Coded E.means E.lanes Decrypt (E.acct engine.old) batch.old batch.new result (E.acct engine.new) }
 {
     let Batch {
         held,
@@ -40,14 +40,14 @@ fn decrypt_one<E: Engine>(engine: &mut E, batch: &mut Batch<'_, E::Wire>) -> Res
 
 // Grants gates.
 fn grant_one<E: Engine>(engine: &mut E, amount: u32) -> Result<(), Fault>
-    ensures { Granting (E.Engine.acct engine.old) amount result (E.Engine.acct engine.new) }
+    ensures { Granting (E.acct engine.old) amount result (E.acct engine.new) }
 {
     engine.grant(amount)
 }
 
 // Makes a call.
 fn make<E: Engine>(engine: &mut E, call: &mut Call<'_, E::Wire>) -> Result<(), Fault>
-    ensures { Step E.Engine.means E.Engine.lanes (E.Engine.acct engine.old) call.old call.new result (E.Engine.acct engine.new) }
+    ensures { Step E.means E.lanes (E.acct engine.old) call.old call.new result (E.acct engine.new) }
 {
     match call {
         Call::Grant(amount) => return grant_one(engine, *amount),
@@ -58,14 +58,14 @@ fn make<E: Engine>(engine: &mut E, call: &mut Call<'_, E::Wire>) -> Result<(), F
 
 // Makes the call of an entry, which keeps the answer.
 fn answer<E: Engine>(engine: &mut E, entry: &mut Entry<'_, E::Wire>)
-    ensures { Answered E.Engine.means E.Engine.lanes (E.Engine.acct engine.old) entry.old entry.new (E.Engine.acct engine.new) }
+    ensures { Answered E.means E.lanes (E.acct engine.old) entry.old entry.new (E.acct engine.new) }
 {
     entry.answer = Some(make(engine, &mut entry.call));
 }
 
 // Makes the calls of a list in order; each entry keeps its own answer.
 pub fn run<E: Engine>(engine: &mut E, list: &mut [Entry<'_, E::Wire>])
-    ensures { Run E.Engine.means E.Engine.lanes (E.Engine.acct engine.old) list.old list.new (E.Engine.acct engine.new) }
+    ensures { Run E.means E.lanes (E.acct engine.old) list.old list.new (E.acct engine.new) }
 {
     for x in list.iter_mut() {
         answer(engine, x);

@@ -19,7 +19,7 @@ returns-in_err-at g c =
           let v = c.loop-draw.invariant.1 f s in
           let d = c.in_err-at.ensures.drew f v.1 in
           took_stop f (kept_key f c.args.n c.args.k c.args.taken) _ _ c.from_residual.result _ p.0 p.1 p.2
-          (try_stop keeps_key (matrix f c.args.n c.args.k) c.loop-draw.-draw c.loop-draw.at _ _ c.loop-draw-test.true v.0 d.0) d.1;
+          (try_stop keeps_key (matrix f c.args.n c.args.k) c.loop-draw._draw c.loop-draw.at _ _ c.loop-draw-test.true v.0 d.0) d.1;
       moved = IfOk-from_err c.from_residual.result _ c.from_residual.ensures.0;
     }
 
@@ -35,7 +35,7 @@ returns-then-independent g c =
           read_back n k (width_of k) c.width-v.result d.0 c.draw_matrix.new.out d.2.0 (omega (arith, c.width-v.ensures.value, c.width-v.ensures.covers.0)) c.width-v.ensures.value d.2.1 in
           let i : Independent d.0 = subst Independent is (c.independent.ensures.sound c.if-independent.true) in (
             d.0,
-            try_yes keeps_key (matrix f n k) c.loop-draw.-draw c.loop-draw.at c.in_ok-at.at d.0 _ c.loop-draw-test.true v.0 d.1 (key_kept d.0 i),
+            try_yes keeps_key (matrix f n k) c.loop-draw._draw c.loop-draw.at c.in_ok-at.at d.0 _ c.loop-draw-test.true v.0 d.1 (key_kept d.0 i),
             (d.2.0, i, d.2.1),
             d.3,
           );
@@ -52,7 +52,7 @@ loop-draw-preserved g c =
           let d = c.in_ok-at.ensures.drew f v.1 in
           let is : rows c.width-v.result n c.draw_matrix.new.out ≡ d.0 =
           read_back n k (width_of k) c.width-v.result d.0 c.draw_matrix.new.out d.2.0 (omega (arith, c.width-v.ensures.value, c.width-v.ensures.covers.0)) c.width-v.ensures.value d.2.1 in (
-            try_no keeps_key (matrix f n k) c.loop-draw.-draw c.loop-draw.at c.in_ok-at.at d.0 _ c.loop-draw-test.true v.0 d.1
+            try_no keeps_key (matrix f n k) c.loop-draw._draw c.loop-draw.at c.in_ok-at.at d.0 _ c.loop-draw-test.true v.0 d.1
                 (key_dropped d.0 (λ i. both_ways c.independent.result c.if-independent.false (c.independent.ensures.complete (subst Independent (sym is) i)))),
             d.3,
           ),
@@ -64,6 +64,6 @@ returns g c =
       drew = λ f s.
           let v = c.loop-draw.invariant.1 f s in
           subst (λ (e : Fault). (kept_key f c.args.n c.args.k c.args.taken ≡ Err e) × Sees f (g.S.BitSource.meaning c.loop-draw.source) e.place) (sym c.at.ensures)
-          (try_none keeps_key (matrix f c.args.n c.args.k) c.loop-draw.-draw c.loop-draw.at _ (omega arith) v.0, v.1);
+          (try_none keeps_key (matrix f c.args.n c.args.k) c.loop-draw._draw c.loop-draw.at _ (omega arith) v.0, v.1);
       moved = tt;
     }

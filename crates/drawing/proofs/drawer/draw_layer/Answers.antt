@@ -17,7 +17,7 @@ returns-in_err-at g c =
           let v = c.loop-draw.invariant.2 f s in
           let d = c.in_err-at.ensures.drew f v.1 in
           took_stop f (kept_layer f c.args.n c.args.taken) _ _ c.from_residual.result _ p.0 p.1 p.2
-          (try_stop keeps_layer (matrix f c.args.n c.args.n) c.loop-draw.-draw c.loop-draw.at _ _ c.loop-draw-test.true v.0 d.0) d.1;
+          (try_stop keeps_layer (matrix f c.args.n c.args.n) c.loop-draw._draw c.loop-draw.at _ _ c.loop-draw-test.true v.0 d.0) d.1;
       moved = IfOk-from_err c.from_residual.result _ c.from_residual.ensures.0;
     }
 
@@ -33,7 +33,7 @@ returns-in-Done g c =
           let d = c.in_ok-at.ensures.drew f v.1 in
           let o = layer_done n (width_of n) _ d.0 c.draw_matrix.new.out _ _ _ d.2.0 (omega (arith, c.width-w.ensures.value, c.width-w.ensures.covers.0)) long d.2.1 c.in-Done.ensures in (
             d.0,
-            try_yes keeps_layer (matrix f n n) c.loop-draw.-draw c.loop-draw.at c.in_ok-at.at d.0 _ c.loop-draw-test.true v.0 d.1 o.0,
+            try_yes keeps_layer (matrix f n n) c.loop-draw._draw c.loop-draw.at c.in_ok-at.at d.0 _ c.loop-draw-test.true v.0 d.1 o.0,
             (d.2.0, o.1, d.2.1, o.2),
             d.3,
           );
@@ -51,7 +51,7 @@ loop-draw-preserved g c =
       λ f s.
           let v = c.loop-draw.invariant.2 f s in
           let d = c.in_ok-at.ensures.drew f v.1 in (
-            try_no keeps_layer (matrix f n n) c.loop-draw.-draw c.loop-draw.at c.in_ok-at.at d.0 _ c.loop-draw-test.true v.0 d.1
+            try_no keeps_layer (matrix f n n) c.loop-draw._draw c.loop-draw.at c.in_ok-at.at d.0 _ c.loop-draw-test.true v.0 d.1
                 (layer_refused n (width_of n) _ d.0 c.draw_matrix.new.out _ _ _ d.2.0 (omega (arith, c.width-w.ensures.value, c.width-w.ensures.covers.0)) (part ∙ c.width-w.ensures.value) d.2.1 c.in-Collapses.ensures),
             d.3,
           ),
@@ -63,6 +63,6 @@ returns g c =
       drew = λ f s.
           let v = c.loop-draw.invariant.2 f s in
           subst (λ (e : Fault). (kept_layer f c.args.n c.args.taken ≡ Err e) × Sees f (g.S.BitSource.meaning c.loop-draw.source) e.place) (sym c.at.ensures)
-          (try_none keeps_layer (matrix f c.args.n c.args.n) c.loop-draw.-draw c.loop-draw.at _ (omega arith) v.0, v.1);
+          (try_none keeps_layer (matrix f c.args.n c.args.n) c.loop-draw._draw c.loop-draw.at _ (omega arith) v.0, v.1);
       moved = tt;
     }

@@ -9,8 +9,8 @@ loop-i-init c = (refl, omega arith, omega arith)
 
 pub loop-i-preserved : goal.loop-i-preserved
 loop-i-preserved c =
-    (c.step-register.ensures.is ∙ ap shift c.loop-i.invariant.0 ∙ sym (shifted_more c.loop-i.-i ones), c.step-register.ensures.some, c.step-register.ensures.within)
+    (c.step-register.ensures.is ∙ ap shift c.loop-i.invariant.0 ∙ sym (shifted_more c.loop-i._i ones), c.step-register.ensures.some, c.step-register.ensures.within)
 
 pub returns : goal.returns
 unfolding begun
-returns c = let e : c.loop-i.-i ≡ 160 = omega arith in c.loop-i.invariant.0 ∙ ap (λ (n : ℕ). shifted n ones) e
+returns c = let e : c.loop-i._i ≡ 160 = omega arith in c.loop-i.invariant.0 ∙ ap (λ (n : ℕ). shifted n ones) e

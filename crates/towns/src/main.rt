@@ -1,5 +1,6 @@
 // Two towns count the readers that they have in common. Each card becomes a code, in shares, under a set that was drawn for the occasion; the
 // codes are compared, and the cards are not.
+#![tactic(auto)]
 use anyhow::anyhow;
 use batches::batch::encrypt;
 use bits::refusal::Fault;
@@ -153,7 +154,7 @@ fn compare(rt: &HostRuntime, held: &Instance) -> anyhow::Result<()> {
 }
 
 // Draws the set, opens it and compares the two towns.
-pub fn show_towns(rt: &HostRuntime) -> anyhow::Result<()> {
+fn show_towns(rt: &HostRuntime) -> anyhow::Result<()> {
     let mut words = vec![in rt.alloc(); 0u64; PARAMS.prepared_words()]?;
     let mut source = GrainSource::new();
     let mut held = Instance::empty();
@@ -162,4 +163,8 @@ pub fn show_towns(rt: &HostRuntime) -> anyhow::Result<()> {
     }
     accepted(held.open(PARAMS, &words))?;
     compare(rt, &held)
+}
+
+fn main(rt: HostRuntime) -> anyhow::Result<()> {
+    show_towns(&rt)
 }
