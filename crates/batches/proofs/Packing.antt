@@ -1,9 +1,9 @@
 -- Wires as rows of a matrix: the steps of the loops that pack, multiply, add and unpack.
-use Rattle.std.proofs.Common.{◌≡◌, ℕ, zero, suc, ◌+◌, ◌-◌, ◌*◌, ◌/◌, ◌%◌, ◌^◌, ◌<◌, ◌≤◌, min, ◌≢◌, List, [], ◌∷◌, ◌++◌, map, length, get_or, take, drop, set, replicate, sym, refl, ap, ◌∙◌, subst, ap₂, mul-le-mul_right, mod-lt, mod-eq_of_lt, mul_assoc, suc-mul, mul_comm, mul-le-mul_left, one-mul, pow-suc, mul_zero, zero-add, zero-mul, mul-add, div-one, mul_left_comm, add-one, arith, length-drop, length-take, pow_pos, pow_mono}
+use Rattle.std.proofs.Common.{◌≡◌, ℕ, zero, suc, ◌+◌, ◌-◌, ◌*◌, ◌/◌, ◌%◌, ◌^◌, ◌<◌, ◌≤◌, min, ◌≢◌, List, [], ◌∷◌, ◌++◌, map, length, get_or, take, drop, set, replicate, sym, refl, ap, ◌∙◌, subst, ap₂, mul-le-mul_right, mod-lt, mod-eq_of_lt, mul_assoc, suc-mul, mul_comm, mul-le-mul_left, one-mul, pow-suc, mul-zero, zero-add, zero-mul, mul-add, div-one, mul_left_comm, add-one, arith, length-drop, length-take, pow_pos, pow_mono}
 use native.Mathlib.Decide.{dec_le, ℕ_discrete}
 use native.Mathlib.Nat.{add-mul-mod_self_left, div-add-mod, mod-add-div}
 use lib.Bits.{bit_or, bit_xor, or_shifted_r, xor_assoc, xor_comm, xor_self, xor_zero_l, xor_zero_r}
-use lib.ListN.{length_map}
+use lib.ListN.{length-map}
 use borrow.Rule.Slice.PartMut.{put_mid}
 use Rattle.std.proofs.lemmas.List.{take_more, take_more_set, map_push, map-set, length_push, length-take-le, take_all, drop_more, drop_all, drop-drop, drop-map, drop-set-lt, get_or-drop, get_or-set_other, get_or-set_same, get_or-take, get_or-map, get_or_push, get_or_append_left, replicate_more}
 use Rattle.std.proofs.lemmas.Slice.{take-put_mid_below, between-put_mid}
@@ -164,7 +164,7 @@ module _ {X : Type 0} (f : X → ℕ) where
 
   pub read_set : (xs : List X) (k s : ℕ) (x : X) → k < length xs → s ≡ k → get_or (map f (set xs k x)) s 0 ≡ f x
   read_set xs k s x h e =
-      let n : length (map f xs) ≡ length xs = length_map xs f in
+      let n : length (map f xs) ≡ length xs = length-map xs f in
       let l : k < length (map f xs) = omega arith in
       ap₂ (λ (l : List ℕ) (i : ℕ). get_or l i 0) (map-set f xs k x) e ∙ rw get_or-set_same
 
@@ -175,7 +175,7 @@ module _ {X : Type 0} (f : X → ℕ) where
   pub map_mul_set : (xs : List X) (k : ℕ) (x : X) (y v : ℕ) → k < length xs → f x ≡ bit_xor (get_or (map f xs) k 0) y
       → mul (map f (set xs k x)) v ≡ bit_xor (mul (map f xs) v) (dot y v * 2 ^ k)
   map_mul_set xs k x y v h e =
-      let n : length (map f xs) ≡ length xs = length_map xs f in
+      let n : length (map f xs) ≡ length xs = length-map xs f in
       ap (λ (l : List ℕ). mul l v) (map-set f xs k x ∙ ap (set (map f xs) k) e) ∙ mul_set (map f xs) k y v (omega arith)
 
 -- ---- read_lane and unload
@@ -335,7 +335,7 @@ get_or_table (suc n) g i h =
 -- before the first group
 pub none_picked : (n w b : ℕ) (ws ms : List ℕ) → replicate n 0 ≡ table n (λ i. comb ms (row_at w ws i % 2 ^ (b * 0)))
 none_picked n w b ws ms =
-    let z : b * 0 ≡ 0 = mul_zero b in
+    let z : b * 0 ≡ 0 = mul-zero b in
     sym (table_none n (λ i. comb ms (row_at w ws i % 2 ^ (b * 0))) (λ i h. ap (comb ms) (ap (λ (k : ℕ). row_at w ws i % 2 ^ k) z ∙ (let y : row_at w ws i % 2 ^ 0 ≡ 0 = omega arith in y)) ∙ comb_zero ms))
 
 -- after one group more
@@ -405,7 +405,7 @@ spread_bit lanes j d y b h few e =
 -- ---- groups of b, as many as n wires make
 
 pub some_groups : (b c : ℕ) → b * c ≡ 64 → 0 < c
-some_groups b zero e = absurd (omega (arith, e, mul_zero b))
+some_groups b zero e = absurd (omega (arith, e, mul-zero b))
 some_groups b (suc c) e = omega arith
 
 pub group_within : (n b g : ℕ) → 1 ≤ b → g < n / b + min 1 (n % b) → b * g < n

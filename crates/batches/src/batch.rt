@@ -32,7 +32,7 @@ fn check_batch(
     masks: usize,
     cells: usize,
 ) -> Result<(), Fault>
-    ensures { (ws : List ℕ) → result ≡ batch_checks E.lanes account (Some (p, ws)) count blocks.now keys.now masks cells }
+    ensures { (ws : List ℕ) → result ≡ batch_checks lanes account (Some (p, ws)) count blocks.now keys.now masks cells }
 {
     let (n, k, w, v) = (p.n as usize, p.k as usize, p.block_words(), p.key_words());
     if count == 0 || count > lanes as usize {

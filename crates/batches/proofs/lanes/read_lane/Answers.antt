@@ -1,5 +1,5 @@
 use Rattle.std.proofs.Common.{◌≡◌, ◌/◌, ◌%◌, ◌^◌, ◌<◌, map, length, sym, refl, ap, ◌∙◌, arith}
-use lib.ListN.{length_map}
+use lib.ListN.{length-map}
 use Rattle.std.proofs.lemmas.List.{take_all}
 use Rattle.bits.proofs.Products.{dot_comm}
 use Rattle.bits.proofs.Rank.{dot_power}
@@ -19,7 +19,7 @@ loop-i-preserved g c =
     let i = c.loop-i.i in
     let j = c.args.j in
     let lt : i < length xs = omega arith in
-    let n : length ms ≡ length xs = length_map xs m in
+    let n : length ms ≡ length xs = length-map xs m in
     lane_more ms c.loop-i.block i (2 ^ j) (c.read.result / 2 ^ j % 2) (omega arith) (omega arith) c.loop-i.invariant
     (ap (λ x. x / 2 ^ j % 2) (c.read.ensures ∙ read_map m xs i _ lt c.index-cells-i.is) ∙ sym (dot_power j _) ∙ dot_comm (2 ^ j) _)
 
@@ -27,5 +27,5 @@ pub returns : goal.returns
 returns g c =
     let m = g.E.Engine.means in
     let xs = c.args.cells.now in
-    let n : length (map m xs) ≡ length xs = length_map xs m in
+    let n : length (map m xs) ≡ length xs = length-map xs m in
     c.loop-i.invariant ∙ ap (lane c.args.j) (take_all c.loop-i.i (map m xs) (omega arith))

@@ -1,6 +1,6 @@
 use Rattle.std.proofs.Common.{◌≡◌, ℕ, ◌<◌, List, map, length, sym, ap, ◌∙◌, ap₂, arith}
 use lib.Bits.{bit_xor, xor_zero_r}
-use lib.ListN.{length_map}
+use lib.ListN.{length-map}
 use Rattle.std.proofs.lemmas.List.{take_all}
 use Rattle.bits.specs.Gf2.{mul}
 use Rattle.batches.proofs.Packing.{read_map, wires_more}
@@ -17,7 +17,7 @@ loop-i-preserved g c v =
     let i = c.loop-i.i in
     let hx : i < length xs = omega arith in
     let hy : i < length ys = omega arith in
-    let n : length (map m ys) ≡ length ys = length_map ys m in
+    let n : length (map m ys) ≡ length ys = length-map ys m in
     wires_more m xs i c.add.result hx (map m ys) v (mul (map m c.args.to.now) v) (omega arith)
     (c.add.ensures ∙ ap₂ bit_xor (read_map m xs i _ hx c.index-to-i.is) (read_map m ys i _ hy c.index-from-i.is)) (c.loop-i.invariant v)
 
@@ -25,5 +25,5 @@ pub returns : goal.returns
 returns g c v =
     let m = g.E.Engine.means in
     let ys = c.args.from.now in
-    let n : length (map m ys) ≡ length ys = length_map ys m in
+    let n : length (map m ys) ≡ length ys = length-map ys m in
     c.loop-i.invariant v ∙ ap (λ (l : List ℕ). bit_xor (mul (map m c.args.to.now) v) (mul l v)) (take_all c.loop-i.i (map m ys) (omega arith))

@@ -1,6 +1,6 @@
 use Rattle.std.proofs.Common.{◌≡◌, ℕ, ◌+◌, ◌*◌, ◌/◌, ◌%◌, ◌^◌, ◌<◌, ◌≤◌, min, map, length, get_or, drop, replicate, sym, ap, ◌∙◌, arith}
 use lib.Bits.{bit_xor}
-use lib.ListN.{length_map}
+use lib.ListN.{length-map}
 use Rattle.bits.specs.Gf2.{comb, rows}
 use Rattle.bits.specs.Gauss.{row_at}
 use Rattle.cipher.specs.Instances.{times}
@@ -63,7 +63,7 @@ returns g c =
     let w = c.args.w in
     let b = c.group_size-b.result in
     let ws = drop c.args.at c.args.words.now in
-    let len : length ms ≡ length xs = length_map xs m in
+    let len : length ms ≡ length xs = length-map xs m in
     let all = groups_cover (length xs) b c.loop-g.g c.group_size-b.ensures.1 (omega (arith, c.div_ceil-g-end.ensures)) in
     c.loop-g.invariant ∙ groups_all (length c.clear.new.cells) w (b * c.loop-g.g) ws ms (omega (arith, len, all))
     ∙ ap (λ k. times (rows w k ws) ms) c.clear.auto.cells

@@ -1,6 +1,6 @@
 use Rattle.std.proofs.Common.{◌≡◌, ◌≤◌, map, length, sym, ◌∙◌, arith}
 use native.Mathlib.Nat.{zero-mod}
-use lib.ListN.{length_map}
+use lib.ListN.{length-map}
 use Rattle.std.proofs.lemmas.List.{get_or_past}
 use Rattle.batches.proofs.Packing.{read_map}
 use Rattle.batches.proofs.wires.wire_at.Goals as goal
@@ -12,5 +12,5 @@ pub returns-else-i-from : goal.returns-else-i-from
 returns-else-i-from g c =
     let m = g.E.Engine.means in
     let xs = c.args.from.now in
-    let n : length (map m xs) ≡ length xs = length_map xs m in
+    let n : length (map m xs) ≡ length xs = length-map xs m in
     c.enter.ensures ∙ zero-mod _ ∙ sym (get_or_past (map m xs) c.args.i 0 (omega arith))
