@@ -1,6 +1,7 @@
 // Speed: makes a set file, reads it, opens the set and encrypts blocks, one by one and in batches; then draws a set from the Grain source. It says
 // something only where it is given a word, as `bench go`.
 #![tactic(auto)]
+
 mod batching;
 mod maker;
 

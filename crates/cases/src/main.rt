@@ -9,6 +9,7 @@
 //
 // What is no case gets the answer `NO 0 0`.
 #![tactic(auto)]
+
 mod blocks;
 mod drawn;
 

@@ -1,6 +1,7 @@
 // A demonstration: reads a set file from standard input, opens the set, encrypts a block, decrypts it again, and prints each step; then it draws a
 // set of its own from the Grain source and does the same with that.
 #![tactic(auto)]
+
 use bits::refusal::Fault;
 use cipher::instance::Instance;
 use cipher::params::Params;

@@ -1,5 +1,6 @@
 // Worked examples: computed from the definitions, as one theorem, and run as tests, with what each call answers and the whole memory afterwards.
 #![tactic(auto)]
+
 #[cfg(test)]
 mod agreeing;
 #[cfg(test)]

@@ -1,6 +1,7 @@
 // One case for the comparison with the second implementation. Standard input has a key and a block, 32 bytes each, lowest first, and then a set
 // file; the answer is one line: the block encrypted, then the block decrypted, as words, or the number and place of the first refusal.
 #![tactic(auto)]
+
 use bits::refusal::Fault;
 use cipher::instance::Instance;
 use cipher::params::Params;

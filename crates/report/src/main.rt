@@ -1,5 +1,6 @@
 // Reports on the set file that comes by standard input: one line.
 #![tactic(auto)]
+
 use files::report::report;
 use input::read_front;
 

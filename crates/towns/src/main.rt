@@ -1,6 +1,7 @@
 // Two towns count the readers that they have in common. Each card becomes a code, in shares, under a set that was drawn for the occasion; the
 // codes are compared, and the cards are not.
 #![tactic(auto)]
+
 use anyhow::anyhow;
 use batches::batch::encrypt;
 use bits::refusal::Fault;

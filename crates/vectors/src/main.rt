@@ -1,6 +1,7 @@
 // Published vectors: draws the sets of two of them from the Grain source, brings them to this library's numbering, encrypts the plaintext and prints
 // what was published beside what was computed.
 #![tactic(auto)]
+
 mod bytes;
 mod exchange;
 
