@@ -1,5 +1,5 @@
 -- What a batch that passes its checks brings, and what it leaves.
-use Rattle.std.proofs.Common.{◌≡◌, ℕ, zero, suc, ◌+◌, ◌*◌, ◌^◌, ◌<◌, ◌≤◌, Bool, true, false, ◌||◌, eqb, ltb, List, [], ◌∷◌, ◌++◌, map, length, get_or, take, drop, replicate, Some, Ok, Err, Result, sym, refl, ap, ◌∙◌, subst, ap₂, arith}
+use Rattle.std.proofs.Common.{◌≡◌, ℕ, zero, suc, ◌*◌, ◌<◌, ◌≤◌, Bool, true, false, ◌||◌, List, [], ◌∷◌, ◌++◌, map, length, get_or, take, drop, replicate, Some, Ok, Err, Result, sym, refl, ap, ◌∙◌, subst, ap₂, arith}
 use Rattle.std.proofs.lemmas.List.{drop_at, length-append, length-take-le, take_at}
 use Rattle.std.proofs.lemmas.Bool.{eqb-true, ltb-false, not-false}
 use Rattle.bits.specs.declared.refusal.Fault.{Fault}
@@ -9,7 +9,6 @@ use Rattle.cipher.specs.declared.params.Params.{Params}
 use Rattle.cipher.specs.Parameters.{block_words_of, gates_of, key_words_of}
 use Rattle.cipher.specs.Blocks.{Held}
 use Rattle.cipher.specs.Sets.{Set}
-use Rattle.cipher.specs.Instances.{set_in}
 use Rattle.cipher.proofs.Calls.{then_is}
 use Rattle.cipher.proofs.Opened.{no_stray}
 use Rattle.cipher.proofs.Strays.{rows_none}

@@ -1,8 +1,8 @@
 -- Wires as rows of a matrix: the steps of the loops that pack, multiply, add and unpack.
-use Rattle.std.proofs.Common.{◌≡◌, ℕ, zero, suc, ◌+◌, ◌-◌, ◌*◌, ◌/◌, ◌%◌, ◌^◌, ◌<◌, ◌≤◌, min, ◌≢◌, List, [], ◌∷◌, ◌++◌, map, length, get_or, take, drop, set, replicate, sym, refl, ap, ◌∙◌, subst, ap₂, mul-le-mul_right, mod-lt, mod-eq_of_lt, mul_assoc, suc-mul, mul_comm, mul-le-mul_left, one-mul, pow-suc, mul-zero, zero-add, zero-mul, mul-add, div-one, mul_left_comm, add-one, arith, length-drop, length-take, pow_pos, pow_mono}
+use Rattle.std.proofs.Common.{◌≡◌, ℕ, zero, suc, ◌+◌, ◌-◌, ◌*◌, ◌/◌, ◌%◌, ◌^◌, ◌<◌, ◌≤◌, min, ◌≢◌, List, [], ◌∷◌, ◌++◌, map, length, get_or, take, drop, set, replicate, sym, refl, ap, ◌∙◌, subst, ap₂, mod-lt, mod-eq_of_lt, mul_assoc, mul_comm, mul-le-mul_left, one-mul, pow-suc, mul-zero, zero-mul, mul-add, mul_left_comm, add-one, arith, length-drop, length-take, pow_pos, pow_mono}
 use native.Mathlib.Decide.{dec_le, ℕ_discrete}
 use native.Mathlib.Nat.{add-mul-mod_self_left, div-add-mod, mod-add-div}
-use lib.Bits.{bit_or, bit_xor, or_shifted_r, xor_assoc, xor_comm, xor_self, xor_zero_l, xor_zero_r}
+use lib.Bits.{bit_or, bit_xor, or_shifted_r, xor_assoc, xor_self, xor_zero_l, xor_zero_r}
 use lib.ListN.{length-map}
 use borrow.Rule.Slice.PartMut.{put_mid}
 use Rattle.std.proofs.lemmas.List.{take_more, take_more_set, map_push, map-set, length_push, length-take-le, take_all, drop_more, drop_all, drop-drop, drop-map, drop-set-lt, get_or-drop, get_or-set_other, get_or-set_same, get_or-take, get_or-map, get_or_push, get_or_append_left, replicate_more}

@@ -1,5 +1,5 @@
 -- A round on wires, lane by lane: what the calls of one round compute, and the gates of several.
-use Rattle.std.proofs.Common.{◌≡◌, ℕ, ◌+◌, ◌-◌, ◌*◌, ◌^◌, ◌<◌, ◌≤◌, List, [], ◌∷◌, get_or, take, drop, sym, ap, ◌∙◌, subst, ap₂, mul_comm, add-mul, one-mul, arith}
+use Rattle.std.proofs.Common.{◌≡◌, ℕ, ◌+◌, ◌-◌, ◌*◌, ◌^◌, ◌<◌, ◌≤◌, List, get_or, take, drop, sym, ap, ◌∙◌, subst, ap₂, mul_comm, add-mul, one-mul, arith}
 use lib.Bits.{bit_xor, xor_assoc, xor_comm}
 use Rattle.std.proofs.lemmas.List.{drop-drop}
 use Rattle.bits.specs.Gf2.{mul, rows, value}

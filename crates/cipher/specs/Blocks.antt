@@ -1,5 +1,5 @@
 -- One block: the checks of a call, and what it leaves.
-use Rattle.std.specs.Prelude.{◌≡◌, ℕ, ◌<◌, not, List, [], ◌∷◌, length, Some, None, Ok, Err, Option, Result, ◌==◌, nat_lt}
+use Rattle.std.specs.Prelude.{◌≡◌, ℕ, not, List, [], ◌∷◌, length, Some, None, Ok, Err, Option, Result, ◌==◌, nat_lt}
 use Rattle.bits.specs.declared.refusal.Refusal.TheVariants.{NoInstance, TooFewWords, WrongLength}
 use Rattle.bits.specs.declared.refusal.Layer.TheVariants.{Batch, Set as SetLayer}
 use Rattle.bits.specs.declared.refusal.Fault.{Fault}

@@ -1,5 +1,5 @@
 -- A prepared set in words: the set that it holds, the checks of opening, and what an instance holds.
-use Rattle.std.specs.Prelude.{◌≡◌, ℕ, zero, suc, ◌+◌, ◌-◌, ◌*◌, ◌^◌, min, Bool, true, false, cond, ◌&&◌, List, [], ◌∷◌, ◌++◌, map, length, drop, Some, None, Ok, Err, Option, Result, ◌==◌, nat_lt}
+use Rattle.std.specs.Prelude.{ℕ, zero, suc, ◌+◌, ◌-◌, ◌*◌, ◌^◌, min, Bool, true, false, cond, ◌&&◌, List, [], ◌∷◌, ◌++◌, map, length, drop, Some, None, Ok, Err, Option, Result, ◌==◌, nat_lt}
 use Rattle.bits.specs.declared.refusal.Refusal.TheVariants.{NotInverse, StrayBit, TooFewWords}
 use Rattle.bits.specs.declared.refusal.Layer.{Layer}
 use Rattle.bits.specs.declared.refusal.Layer.TheVariants.{Set as SetLayer}

@@ -1,6 +1,6 @@
 -- A set: its parameters, its layers L, its constants C and its key matrices K. Sets with equal parts are one set.
 use Rattle.std.specs.Prelude.{◌≡◌, ℕ, ◌+◌, List, [], ◌∷◌, ◌++◌, map, length}
-use Rattle.bits.specs.Gf2.{Below, Collapses, flat, inverse_of}
+use Rattle.bits.specs.Gf2.{Below, flat, inverse_of}
 use Rattle.cipher.specs.declared.params.Params.{Params}
 use Rattle.cipher.specs.Parameters.{Lawful, block_words_of, key_words_of}
 

@@ -1,8 +1,8 @@
 -- The register of the generator stays within its bits and is never zero.
-use Rattle.std.proofs.Common.{◌≡◌, ℕ, zero, suc, ◌+◌, ◌-◌, ◌*◌, ◌/◌, ◌%◌, ◌^◌, ◌<◌, cond, eqb, Some, None, Option, sym, refl, ap, ◌∙◌, subst, add_comm, add-one, arith}
+use Rattle.std.proofs.Common.{◌≡◌, ℕ, zero, suc, ◌+◌, ◌-◌, ◌/◌, ◌^◌, ◌<◌, cond, Some, None, sym, ap, ◌∙◌, add_comm, add-one, arith}
 use Rattle.std.proofs.lemmas.Bool.{eq-eqb, ne_eqb}
-use Rattle.drawing.specs.Streams.{Asked, Sees, Stream}
-use Rattle.drawing.specs.Grain.{Given, given, grain, new_bit_of, nth, shift, shifted}
+use Rattle.drawing.specs.Streams.{Sees}
+use Rattle.drawing.specs.Grain.{given, grain, new_bit_of, nth, shift, shifted}
 use Rattle.drawing.specs.Digits.{new_below}
 
 pub shift_some : (s : ℕ) → 0 < s → 0 < shift s

@@ -1,5 +1,5 @@
 -- A self-shrinking generator over a linear feedback shift register of 80 bits. The register is a number: its bit j is b(i + j), for i bits gone by.
-use Rattle.std.specs.Prelude.{◌≡◌, ℕ, zero, suc, ◌+◌, ◌-◌, ◌*◌, ◌/◌, ◌%◌, ◌^◌, ◌<◌, cond, List, [], ◌∷◌, Some, None, Option, ◌==◌, bit_xor}
+use Rattle.std.specs.Prelude.{◌≡◌, ℕ, zero, suc, ◌+◌, ◌-◌, ◌*◌, ◌/◌, ◌%◌, ◌^◌, cond, List, [], ◌∷◌, Some, None, Option, ◌==◌, bit_xor}
 use Rattle.drawing.specs.Streams.{Stream}
 
 abbrev pub at : ℕ → ℕ → ℕ

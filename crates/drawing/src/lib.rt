@@ -1,5 +1,6 @@
 // Drawing sets from a source of bits.
 #![tactic(auto)]
+
 pub mod drawer;
 pub mod grain;
 pub mod source;

@@ -1,8 +1,7 @@
 -- One step of the check of a tape.
-use Rattle.std.proofs.Common.{◌≡◌, ℕ, suc, ◌+◌, ◌-◌, ◌<◌, Bool, true, false, cond, List, Ok, Err, Result, sym, ap, ◌∙◌, subst, arith, below_more, eqb-true}
+use Rattle.std.proofs.Common.{◌≡◌, ℕ, suc, ◌+◌, ◌-◌, ◌<◌, Bool, true, false, cond, List, Err, sym, ap, ◌∙◌, subst, arith, below_more, eqb-true}
 use borrow.Author.Tests.{eqb-false}
 use Rattle.bits.specs.Refusals.{fault_at}
-use Rattle.bits.specs.declared.refusal.Fault.{Fault}
 use Rattle.bits.specs.declared.refusal.Layer.TheVariants.{Engine}
 use Rattle.bits.specs.declared.refusal.Refusal.TheVariants.{BadTriples}
 use Rattle.engines.specs.Triples.{AllTrue, IsTrueTriple, check_from, triple_of, truth}

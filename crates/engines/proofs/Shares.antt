@@ -1,5 +1,5 @@
 -- Sums of shares, and why a true triple gives the shares of the product.
-use Rattle.std.proofs.Common.{◌≡◌, ℕ, sym, refl, ap, ◌∙◌, ap₂}
+use Rattle.std.proofs.Common.{◌≡◌, ℕ, sym, ap, ◌∙◌, ap₂}
 use lib.Bits.{bit_and, bit_xor, xor_assoc, xor_comm, and_comm, xor_self, xor_zero_r}
 use Rattle.bits.proofs.Products.{and_xor}
 

@@ -84,7 +84,7 @@ pub fn agrees<E: Engine>(
     let mut wires = cells(heap, engine, used + 2)?;
     let before = engine.account();
     decrypt(engine, held, count, &mut changed, keys, masks, &mut wires)?;
-    assert!(rt; changed == blocks);
+    assert!(rt; changed.as_slice() == blocks);
     check_cleared(rt, engine, &wires, used);
     check_spent(rt, before, engine.account(), p);
     Ok(())
@@ -112,7 +112,7 @@ pub fn wants_gates<E: Engine>(
         answer,
         Err(Fault::at(Refusal::OutOfGates, Layer::Engine, left))
     );
-    assert!(rt; changed == blocks);
+    assert!(rt; changed.as_slice() == blocks);
     assert_eq!(rt; carried(heap, engine, &wires)?, seen);
     assert_eq!(rt; engine.account(), before);
     Ok(())

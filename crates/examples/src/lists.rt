@@ -114,7 +114,7 @@ fn left<E: Engine>(
     accepted: bool,
     blocks: &[u64],
 ) -> Result<(), Fail> {
-    assert!(rt; batch.blocks == blocks);
+    assert!(rt; batch.blocks.as_slice() == blocks);
     check_cleared(rt, engine, &batch.cells, if accepted { 12 } else { 0 });
     Ok(())
 }

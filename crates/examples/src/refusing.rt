@@ -75,7 +75,7 @@ fn refused(
         &mut wires,
     );
     assert_eq!(rt; answer, Err(want));
-    assert!(rt; changed == blocks);
+    assert!(rt; changed.as_slice() == blocks);
     assert_eq!(rt; carried(heap, &engine, &wires)?, before);
     assert_eq!(rt; engine.account(), account);
     Ok(())

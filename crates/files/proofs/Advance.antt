@@ -1,17 +1,16 @@
 -- One record further: a look at the record due, and then a step, do what the rest of the file is judged by.
-use Rattle.std.proofs.Common.{◌≡◌, ℕ, zero, suc, ◌+◌, ◌-◌, ◌*◌, ◌<◌, ◌≤◌, Bool, true, false, cond, ◌&&◌, eqb, ltb, List, [], ◌∷◌, ◌++◌, length, get_or, take, drop, Some, None, Ok, Err, Option, Result, sym, refl, ap, ◌∙◌, subst, ap₂, add-zero, one-mul, add-one, arith, length-drop}
+use Rattle.std.proofs.Common.{◌≡◌, ℕ, suc, ◌+◌, ◌-◌, ◌*◌, ◌<◌, ◌≤◌, true, false, cond, ◌&&◌, eqb, ltb, List, [], ◌∷◌, ◌++◌, length, get_or, drop, Some, None, Ok, Err, Option, Result, sym, refl, ap, ◌∙◌, subst, ap₂, add-zero, add-one, arith, length-drop}
 use Rattle.std.proofs.lemmas.List.{append_assoc, drop-drop, get_or-drop}
 use Rattle.std.proofs.lemmas.Bool.{cond_both, cond-false, cond-true, le-ltb, lt-ltb, ltb-false, ltb-true}
 use Rattle.bits.specs.declared.refusal.Refusal.TheVariants.{Truncated, WrongMark, WrongNumber}
 use Rattle.bits.specs.declared.refusal.Layer.TheVariants.{File}
 use Rattle.bits.specs.declared.refusal.Fault.{Fault}
 use Rattle.bits.specs.Refusals.{fault_at, first_of, then}
-use Rattle.cipher.specs.declared.params.Params.{Params}
 use Rattle.cipher.specs.Parameters.{Lawful}
 use Rattle.files.specs.declared.reader.Mark.{Mark}
 use Rattle.files.specs.declared.reader.Mark.TheVariants.{Header, Layer, Constant, Key, End}
 use Rattle.files.specs.Format.{byte_width_of, first, second, record_size}
-use Rattle.files.specs.Faults.{Slot, body_slots, constants_due, end_slots, judged, keys_due, layers_due, letters, number, record_slots, seen, series_slots, size_of}
+use Rattle.files.specs.Faults.{Slot, body_slots, constants_due, end_slots, judged, keys_due, letters, number, record_slots, seen, series_slots, size_of}
 use Rattle.files.specs.Steps.{Answer, Seen, State, due_at, numbered, past, record_at, series, step_from, step_of, whole_size}
 use Rattle.files.specs.Surveys.{Sound, SoundAt, due_after, judged_from, look_of, slots_at}
 use Rattle.files.proofs.Meets.{test_ok}

@@ -1,5 +1,5 @@
 -- Layers of a file as words, and their inverses.
-use Rattle.std.proofs.Common.{◌≡◌, ℕ, zero, suc, ◌+◌, ◌-◌, ◌*◌, ◌/◌, ◌%◌, ◌^◌, ◌<◌, ◌≤◌, List, [], ◌∷◌, ◌++◌, map, length, get_or, take, drop, replicate, sym, refl, ap, ◌∙◌, subst, ap₂, suc-mul, zero-add, zero-mul, add-one, arith, pow_pos, pow_mono}
+use Rattle.std.proofs.Common.{◌≡◌, ℕ, zero, suc, ◌+◌, ◌-◌, ◌*◌, ◌/◌, ◌%◌, ◌^◌, ◌<◌, ◌≤◌, List, [], ◌∷◌, ◌++◌, map, length, get_or, take, drop, replicate, sym, refl, ap, ◌∙◌, subst, ap₂, suc-mul, zero-add, zero-mul, arith, pow_pos, pow_mono}
 use Rattle.std.proofs.lemmas.Nat.{pow-add}
 use Rattle.std.proofs.lemmas.List.{drop-drop, drop-replicate, map-append}
 use Rattle.bits.specs.declared.elimination.Inversion.{Inversion}
@@ -10,7 +10,7 @@ use Rattle.bits.proofs.Inverse.{not_both}
 use Rattle.bits.proofs.Vectors.{rows_flat}
 use Rattle.cipher.specs.Sets.{Each, joined}
 use Rattle.files.specs.Format.{byte_rows, byte_value, matrices_of, record_size}
-use Rattle.files.specs.Preparing.{Inverting, SmallWitness, Tried, matrix_at}
+use Rattle.files.specs.Preparing.{Inverting, Tried, matrix_at}
 use Rattle.cipher.specs.Laws.{Invertible}
 use Rattle.files.proofs.Pieces.{Bytes, bytes_drop, joined_more, matrices_more}
 

@@ -1,8 +1,8 @@
 -- The checks of reading in their order, and the law over whole files.
-use Rattle.std.proofs.Common.{◌≡◌, ℕ, zero, suc, ◌+◌, ◌-◌, ◌*◌, ◌<◌, ◌≤◌, Bool, true, false, cond, not, ◌&&◌, eqb, ltb, List, [], ◌∷◌, ◌++◌, length, get_or, drop, Some, None, Ok, Err, Option, Result, sym, refl, ap, ◌∙◌, subst, ap₂, inl, inr, arith, pow_pos}
+use Rattle.std.proofs.Common.{◌≡◌, ℕ, zero, suc, ◌+◌, ◌-◌, ◌<◌, ◌≤◌, Bool, true, false, cond, not, ◌&&◌, eqb, ltb, List, [], ◌∷◌, length, get_or, drop, Some, None, Ok, Err, Option, Result, sym, refl, ap, ◌∙◌, subst, inl, inr, arith, pow_pos}
 use native.Mathlib.Nat.{sub-zero}
 use Rattle.std.proofs.lemmas.Bool.{cond-false, le-ltb, ltb-false}
-use Rattle.bits.specs.declared.refusal.Refusal.TheVariants.{ParameterOutOfRange, TooFewWords, Truncated, WrongMark}
+use Rattle.bits.specs.declared.refusal.Refusal.TheVariants.{ParameterOutOfRange, Truncated, WrongMark}
 use Rattle.bits.specs.declared.refusal.Layer.TheVariants.{File, Set as SetLayer}
 use Rattle.bits.specs.declared.refusal.Fault.{Fault}
 use Rattle.bits.specs.Refusals.{fault_at, first_of, then}
@@ -23,7 +23,7 @@ use Rattle.cipher.specs.Laws.{Among, Clash, Invertible}
 use Rattle.cipher.specs.Instances.{opening, set_in}
 use Rattle.cipher.proofs.Collapse.{clash_at, clash_collapses, never_both}
 use Rattle.cipher.proofs.Opens.{prepared_holds, prepared_opens}
-use Rattle.files.proofs.Exact.{check_ok, file_is, file_passes, header_lawful, judged_is, then_ok}
+use Rattle.files.proofs.Exact.{check_ok, file_is, file_passes, judged_is, then_ok}
 use Rattle.files.proofs.Inverting.{each_at}
 use Rattle.files.proofs.Pieces.{Bytes}
 use Rattle.files.proofs.Slots.{size_of_all}

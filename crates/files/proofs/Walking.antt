@@ -1,5 +1,5 @@
 -- The records of a file that is stepped through are the file.
-use Rattle.std.proofs.Common.{◌≡◌, ℕ, suc, ◌+◌, ◌-◌, ◌≤◌, Bool, true, false, cond, ◌&&◌, eqb, ltb, List, [], ◌∷◌, ◌++◌, length, get_or, take, drop, Some, None, Ok, Err, Option, Result, sym, refl, ap, ◌∙◌, subst, ap₂, arith, take-append-drop}
+use Rattle.std.proofs.Common.{◌≡◌, ℕ, ◌+◌, ◌-◌, ◌≤◌, Bool, true, false, cond, ◌&&◌, eqb, ltb, List, [], ◌∷◌, ◌++◌, length, get_or, take, drop, Some, None, Ok, Err, Option, Result, sym, refl, ap, ◌∙◌, subst, ap₂, arith, take-append-drop}
 use Rattle.std.proofs.lemmas.List.{drop_all, drop-drop, drop_more}
 use Rattle.std.proofs.lemmas.Bool.{eqb-true, ltb-false}
 use Rattle.bits.specs.declared.refusal.Fault.{Fault}
@@ -8,7 +8,7 @@ use Rattle.cipher.specs.Parameters.{limits}
 use Rattle.files.specs.declared.reader.Mark.{Mark}
 use Rattle.files.specs.declared.reader.Mark.TheVariants.{Header, Layer, Constant, Key, End}
 use Rattle.files.specs.Format.{first, second}
-use Rattle.files.specs.Steps.{Answer, Seen, State, at_start, body_size_of, due_at, head_size_of, marked, numbered, params_at, past, record_at, series, step_from, step_of, whole_size}
+use Rattle.files.specs.Steps.{Answer, Seen, State, at_start, body_size_of, head_size_of, marked, numbered, params_at, past, record_at, series, step_from, whole_size}
 use Rattle.files.specs.Walks.{Hands, WholeFile, all_written, written}
 
 -- ---- the bytes at a place

@@ -1,12 +1,12 @@
 -- What can be wrong in a file whose header is right: the parameters fix what each byte may be, and the lowest wrong place decides.
-use Rattle.std.specs.Prelude.{ℕ, zero, suc, ◌+◌, ◌-◌, ◌*◌, ◌^◌, min, cond, ◌&&◌, List, [], ◌∷◌, ◌++◌, length, drop, Ok, Err, Result, ◌==◌, nat_lt}
+use Rattle.std.specs.Prelude.{ℕ, zero, suc, ◌+◌, ◌-◌, ◌^◌, min, cond, ◌&&◌, List, [], ◌∷◌, ◌++◌, length, drop, Ok, Err, Result, ◌==◌, nat_lt}
 use Rattle.bits.specs.declared.refusal.Refusal.TheVariants.{Truncated, WrongMark, WrongNumber, StrayBit}
 use Rattle.bits.specs.declared.refusal.Layer.TheVariants.{File}
 use Rattle.bits.specs.declared.refusal.Fault.{Fault}
 use Rattle.bits.specs.Refusals.{fault_at, first_of, then}
 use Rattle.cipher.specs.declared.params.Params.{Params}
 use Rattle.files.specs.declared.reader.Mark.{Mark}
-use Rattle.files.specs.declared.reader.Mark.TheVariants.{Header, Layer, Constant, Key, End}
+use Rattle.files.specs.declared.reader.Mark.TheVariants.{Layer, Constant, Key, End}
 use Rattle.files.specs.Format.{byte_width_of, first, second}
 
 -- what is due at a place: the two letters of a mark, a round number, or a byte of a row, which is below a limit

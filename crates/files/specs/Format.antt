@@ -1,5 +1,5 @@
 -- The set file: how a set is laid out as bytes, and how it is read back.
-use Rattle.std.specs.Prelude.{ℕ, zero, suc, ◌+◌, ◌*◌, ◌/◌, ◌%◌, List, [], ◌∷◌, ◌++◌, length, take, drop}
+use Rattle.std.specs.Prelude.{ℕ, zero, suc, ◌+◌, ◌*◌, ◌/◌, ◌%◌, List, [], ◌∷◌, ◌++◌, take, drop}
 use Rattle.cipher.specs.declared.params.Params.{Params}
 use Rattle.cipher.specs.Sets.{Set, joined}
 use Rattle.files.specs.declared.reader.Mark.{Mark}

@@ -1,5 +1,5 @@
 -- Inverting the layers of a file.
-use Rattle.std.specs.Prelude.{◌≡◌, ℕ, ◌+◌, ◌*◌, ◌^◌, ◌<◌, ◌≤◌, List, [], ◌++◌, length, drop, Ok, Err, Result, slice_index_or}
+use Rattle.std.specs.Prelude.{◌≡◌, ℕ, ◌+◌, ◌*◌, ◌<◌, List, [], ◌++◌, drop, Ok, Err, Result, slice_index_or}
 use Rattle.bits.specs.declared.elimination.Inversion.{Inversion}
 use Rattle.bits.specs.declared.elimination.Inversion.TheVariants.{Done, Collapses}
 use Rattle.bits.specs.declared.refusal.Refusal.TheVariants.{LayerCollapses}

@@ -1,5 +1,5 @@
 -- Reading a set from a file: the checks in their order, and what is left in memory.
-use Rattle.std.specs.Prelude.{◌≡◌, ℕ, ◌+◌, ◌-◌, ◌<◌, ◌≤◌, not, ◌&&◌, List, [], ◌∷◌, ◌++◌, length, drop, Ok, Err, Result, ◌==◌, nat_lt, slice_index, slice_index_or}
+use Rattle.std.specs.Prelude.{◌≡◌, ℕ, ◌-◌, ◌≤◌, not, ◌&&◌, List, [], ◌∷◌, ◌++◌, length, drop, Ok, Err, Result, ◌==◌, nat_lt, slice_index, slice_index_or}
 use Rattle.bits.specs.declared.refusal.Refusal.TheVariants.{LayerCollapses, TooFewWords, Truncated, WrongMark}
 use Rattle.bits.specs.declared.refusal.Layer.TheVariants.{File, Set as SetLayer}
 use Rattle.bits.specs.declared.refusal.Fault.{Fault}

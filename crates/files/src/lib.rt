@@ -1,4 +1,5 @@
 #![tactic(auto)]
+
 mod layers;
 pub mod reader;
 pub mod reading;

@@ -1,5 +1,5 @@
 -- What an accepted batch leaves in its lanes.
-use Rattle.std.proofs.Common.{◌≡◌, ℕ, zero, suc, ◌*◌, ◌^◌, ◌<◌, ◌≤◌, Bool, true, false, ◌⊎◌, List, [], ◌∷◌, length, get_or, Some, None, Ok, Err, vec_items, Option, Result, sym, refl, ap, ◌∙◌, subst, ap₂, inl, inr, le_of_eq, arith, pow_pos, pow_mono}
+use Rattle.std.proofs.Common.{◌≡◌, ℕ, zero, suc, ◌*◌, ◌^◌, ◌<◌, ◌≤◌, Bool, true, false, List, [], ◌∷◌, length, get_or, Some, None, Ok, vec_items, Option, Result, sym, refl, ap, ◌∙◌, subst, ap₂, inl, inr, le_of_eq, arith, pow_pos, pow_mono}
 use Rattle.std.proofs.lemmas.Bool.{eqb-true, not-false}
 use Rattle.bits.specs.declared.refusal.Fault.{Fault}
 use Rattle.bits.specs.Refusals.{first_of}
@@ -27,7 +27,7 @@ use Rattle.sittings.specs.declared.entry.Batch.{Batch}
 use Rattle.sittings.specs.declared.entry.Call.{Call}
 use Rattle.sittings.specs.declared.entry.Entry.{Entry}
 use Rattle.sittings.specs.Runs.{AnsweredBy, Coded, Run, Step}
-use Rattle.sittings.specs.Laws.{Accepted, AllApart, AllLanes, LaneByLane, Under, asked, block_at, key_at, set_held}
+use Rattle.sittings.specs.Laws.{Accepted, AllApart, AllLanes, Under, asked, block_at, key_at, set_held}
 
 -- ---- numbers below a power of two
 

@@ -6,7 +6,7 @@ use Rattle.cipher.specs.declared.instance.Instance.{Instance}
 use Rattle.cipher.specs.Blocks.{Held}
 use Rattle.cipher.specs.Holds.{held_by}
 use Rattle.engines.specs.declared.engine.Account.{Account}
-use Rattle.engines.specs.Accounts.{Sound, new_account}
+use Rattle.engines.specs.Accounts.{Sound}
 use Rattle.batches.specs.Batches.{Leaves}
 use Rattle.sittings.specs.declared.entry.Batch.{Batch}
 use Rattle.sittings.specs.declared.entry.Call.{Call}

@@ -1,4 +1,4 @@
-use Rattle.std.proofs.Common.{◌+◌, ◌*◌, map, refl, ◌∙◌, arith, rules}
+use Rattle.std.proofs.Common.{map, refl, ◌∙◌, arith, rules}
 use Rattle.cipher.proofs.Triples.{unsubstitution_more, unsubstitution_none}
 use Rattle.batches.specs.Lanes.{lane}
 use Rattle.batches.proofs.gates.unsubstitute.Goals as goal

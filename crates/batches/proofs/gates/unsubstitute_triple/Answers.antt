@@ -1,4 +1,4 @@
-use Rattle.std.proofs.Common.{◌≡◌, ap, ◌∙◌, ap₂, arith, rules}
+use Rattle.std.proofs.Common.{ap, ◌∙◌, ap₂, arith, rules}
 use lib.Bits.{bit_xor}
 use Rattle.batches.proofs.Boxes.{unbox_lane}
 use Rattle.batches.proofs.Packing.{read_map}

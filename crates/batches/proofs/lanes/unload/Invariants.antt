@@ -1,4 +1,4 @@
-use Rattle.std.proofs.Common.{◌≡◌, map, length}
+use Rattle.std.proofs.Common.{◌≡◌, map}
 use Rattle.bits.specs.Gf2.{rows}
 use Rattle.batches.specs.Lanes.{columns}
 use Rattle.batches.proofs.lanes.unload.Given as goal

@@ -3,7 +3,7 @@ use lib.Bits.{bit_xor}
 use Rattle.cipher.specs.LowMC.{rounds}
 use Rattle.cipher.specs.Parameters.{block_words_of, key_words_of}
 use Rattle.cipher.proofs.Bounds.{roomy}
-use Rattle.cipher.proofs.Passes.{constants_left, encrypted, first_at, keys_left, layers_left, round_at, rounds_done, rounds_more}
+use Rattle.cipher.proofs.Passes.{constants_left, encrypted, keys_left, layers_left, round_at, rounds_done, rounds_more}
 use Rattle.batches.specs.Lanes.{lane}
 use Rattle.batches.proofs.Turns.{constant_below, gates_all, gates_left, gates_more, first_lane}
 use Rattle.batches.proofs.rounds.encrypt_wires.Goals as goal

@@ -1,4 +1,4 @@
-use Rattle.std.proofs.Common.{◌≡◌, ℕ, ◌%◌, ◌^◌, ◌<◌, map, length, sym, ap, ◌∙◌, ap₂, mod-eq_of_lt, arith}
+use Rattle.std.proofs.Common.{◌≡◌, ◌%◌, ◌^◌, ◌<◌, map, length, sym, ap, ◌∙◌, mod-eq_of_lt, arith}
 use lib.Bits.{bit_xor, xor_zero_r}
 use Rattle.bits.specs.Gf2.{value}
 use Rattle.bits.proofs.Products.{dot_below}

@@ -1,5 +1,5 @@
-use Rattle.std.proofs.Common.{◌≡◌, ◌*◌, ◌^◌, sym, ap, arith}
-use Rattle.bits.specs.Gf2.{dot, value}
+use Rattle.std.proofs.Common.{◌^◌, arith}
+use Rattle.bits.specs.Gf2.{value}
 use Rattle.bits.proofs.Products.{dot_below}
 use Rattle.batches.proofs.wires.spread.Goals as goal
 

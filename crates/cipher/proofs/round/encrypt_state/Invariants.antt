@@ -1,4 +1,4 @@
-use Rattle.std.proofs.Common.{◌≡◌, ◌-◌}
+use Rattle.std.proofs.Common.{◌≡◌}
 use Rattle.bits.specs.Gf2.{value}
 use Rattle.cipher.specs.LowMC.{rounds}
 use Rattle.cipher.proofs.Passes.{constants_left, keys_left, layers_left}

@@ -1,4 +1,4 @@
-use Rattle.std.proofs.Common.{◌+◌, ◌-◌, ◌*◌, ◌≤◌, length, arith}
+use Rattle.std.proofs.Common.{◌+◌, ◌*◌, ◌≤◌, length, arith}
 use Rattle.bits.proofs.Vectors.{row_ends}
 use Rattle.cipher.proofs.Passes.{next}
 use Rattle.cipher.proofs.Strays.{row_inside, rows_end, rows_here, rows_more}

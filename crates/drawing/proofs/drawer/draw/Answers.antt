@@ -1,8 +1,6 @@
-use Rattle.std.proofs.Common.{◌≡◌, ℕ, ◌≤◌, List, ◌++◌, length, take, drop, Ok, Err, sym, refl, ap, ◌∙◌, arith}
+use Rattle.std.proofs.Common.{◌≡◌, ℕ, ◌≤◌, List, ◌++◌, length, take, drop, sym, ap, ◌∙◌, arith}
 use Rattle.std.proofs.lemmas.List.{length-take-le, take_at}
-use Rattle.cipher.specs.Parameters.{limits}
-use Rattle.drawing.specs.Drawing.{ready}
-use Rattle.drawing.proofs.Sets.{draws_done, draws_refused, draws_stopped, opens_done, ready_all, ready_limits, ready_narrow, ready_short, sees_self}
+use Rattle.drawing.proofs.Sets.{draws_done, draws_stopped, opens_done, ready_all, sees_self}
 use Rattle.drawing.proofs.drawer.draw.Goals as goal
 
 pub returns-in-Ok : goal.returns-in-Ok

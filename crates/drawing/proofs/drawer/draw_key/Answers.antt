@@ -1,10 +1,9 @@
-use Rattle.std.proofs.Common.{◌≡◌, ℕ, ◌+◌, ◌-◌, ◌*◌, ◌^◌, ◌<◌, ◌≤◌, true, false, List, length, Ok, Err, sym, refl, ap, ◌∙◌, subst, mul-le-mul, arith}
+use Rattle.std.proofs.Common.{◌≡◌, ℕ, Err, sym, subst, mul-le-mul, arith}
 use Rattle.std.proofs.lemmas.Result.{err_from_is_err_and, IfOk-from_err}
 use Rattle.std.proofs.lemmas.Bool.{both_ways}
 use Rattle.bits.specs.declared.refusal.Fault.{Fault}
-use Rattle.bits.specs.Gf2.{Independent, flat, rows, width_of}
-use Rattle.cipher.specs.Sets.{Matrix}
-use Rattle.drawing.specs.Streams.{Sees, Stream}
+use Rattle.bits.specs.Gf2.{Independent, rows, width_of}
+use Rattle.drawing.specs.Streams.{Sees}
 use Rattle.drawing.specs.Drawing.{keeps_key, kept_key, matrix}
 use Rattle.drawing.proofs.Taking.{took_stop, try_no, try_none, try_stop, try_yes}
 use Rattle.drawing.proofs.Keeping.{key_dropped, key_kept}

@@ -1,4 +1,4 @@
-use Rattle.std.proofs.Common.{◌≡◌, ℕ, ◌+◌, ◌-◌, ◌*◌, ◌≤◌}
+use Rattle.std.proofs.Common.{◌≡◌, ◌+◌, ◌-◌, ◌*◌, ◌≤◌}
 use Rattle.drawing.specs.Streams.{Sees, Stream}
 use Rattle.drawing.specs.Drawing.{first_kept, keeps_key, kept_key, matrix}
 use Rattle.drawing.proofs.drawer.draw_key.Given as goal

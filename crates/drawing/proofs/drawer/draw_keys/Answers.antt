@@ -1,10 +1,9 @@
-use Rattle.std.proofs.Common.{◌≡◌, ℕ, ◌+◌, ◌-◌, ◌*◌, ◌^◌, ◌<◌, ◌≤◌, List, [], ◌∷◌, ◌++◌, length, take, drop, Ok, Err, sym, refl, ap, ◌∙◌, subst, zero-mul, arith, length-drop, length-take}
+use Rattle.std.proofs.Common.{◌≡◌, ℕ, ◌+◌, ◌*◌, ◌<◌, ◌≤◌, List, [], ◌∷◌, ◌++◌, length, take, Ok, sym, refl, ap, ◌∙◌, subst, zero-mul, arith}
 use Rattle.std.proofs.lemmas.List.{length_push, take_all}
 use Rattle.std.proofs.lemmas.Result.{err_from_is_err_and}
 use Rattle.bits.specs.Gf2.{Independent, flat, width_of}
-use Rattle.bits.proofs.Vectors.{length_flat, row_ends}
+use Rattle.bits.proofs.Vectors.{row_ends}
 use Rattle.cipher.specs.Sets.{Matrix, joined}
-use Rattle.drawing.specs.Streams.{Sees, Stream}
 use Rattle.drawing.specs.Drawing.{Keys, kept_key, several}
 use Rattle.drawing.proofs.Taking.{several_more, several_none, several_stop, took_stop}
 use Rattle.drawing.proofs.Pieces.{each_push, filled, flat_joined, length_matrix}

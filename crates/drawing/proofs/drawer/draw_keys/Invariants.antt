@@ -1,4 +1,4 @@
-use Rattle.std.proofs.Common.{◌≡◌, ℕ, ◌+◌, ◌*◌, ◌^◌, ◌≤◌, List, take, Ok, Err}
+use Rattle.std.proofs.Common.{◌≡◌, ℕ, ◌+◌, ◌*◌, ◌^◌, ◌≤◌, List, take, Ok}
 use Rattle.bits.specs.Gf2.{flat, width_of}
 use Rattle.cipher.specs.Sets.{joined}
 use Rattle.drawing.specs.Streams.{Sees, Stream}

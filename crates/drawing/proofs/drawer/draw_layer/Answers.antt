@@ -1,9 +1,9 @@
-use Rattle.std.proofs.Common.{◌≡◌, ℕ, ◌+◌, ◌-◌, ◌*◌, ◌^◌, ◌<◌, ◌≤◌, List, length, take, Ok, Err, sym, refl, ap, ◌∙◌, subst, mul-le-mul, arith, length-append, length-drop}
+use Rattle.std.proofs.Common.{◌≡◌, ℕ, ◌≤◌, length, take, Err, sym, ◌∙◌, subst, mul-le-mul, arith, length-append, length-drop}
 use Rattle.std.proofs.lemmas.List.{length-take-le}
 use Rattle.std.proofs.lemmas.Result.{err_from_is_err_and, IfOk-from_err}
 use Rattle.bits.specs.declared.refusal.Fault.{Fault}
 use Rattle.bits.specs.Gf2.{width_of}
-use Rattle.drawing.specs.Streams.{Sees, Stream}
+use Rattle.drawing.specs.Streams.{Sees}
 use Rattle.drawing.specs.Drawing.{keeps_layer, kept_layer, matrix}
 use Rattle.drawing.proofs.Taking.{took_stop, try_no, try_none, try_stop, try_yes}
 use Rattle.drawing.proofs.Keeping.{layer_done, layer_refused}

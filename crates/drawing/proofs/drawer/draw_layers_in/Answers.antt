@@ -1,11 +1,10 @@
-use Rattle.std.proofs.Common.{◌≡◌, ℕ, ◌+◌, ◌-◌, ◌*◌, ◌^◌, ◌<◌, ◌≤◌, List, [], ◌∷◌, ◌++◌, map, length, take, drop, Ok, Err, sym, refl, ap, ◌∙◌, subst, zero-mul, arith, length-drop}
+use Rattle.std.proofs.Common.{◌≡◌, ℕ, ◌+◌, ◌*◌, ◌<◌, ◌≤◌, List, [], ◌∷◌, ◌++◌, map, length, take, drop, Ok, sym, refl, ap, ◌∙◌, subst, zero-mul, arith, length-drop}
 use Rattle.std.proofs.lemmas.List.{length_push, map_push, take_all}
 use Rattle.std.proofs.lemmas.Result.{err_from_is_err_and, IfOk-from_err}
 use Rattle.bits.specs.Gf2.{flat, inverse_of, width_of}
 use Rattle.bits.proofs.Vectors.{row_ends}
 use Rattle.cipher.specs.Sets.{Matrix, joined}
 use Rattle.cipher.specs.Laws.{Invertible}
-use Rattle.drawing.specs.Streams.{Sees, Stream}
 use Rattle.drawing.specs.Drawing.{Layers, kept_layer, over, several}
 use Rattle.drawing.proofs.Taking.{several_more, several_none, several_stop, took_stop}
 use Rattle.drawing.proofs.Pieces.{each_push, flat_joined, two_written}

@@ -1,4 +1,4 @@
-use Rattle.std.proofs.Common.{◌≡◌, ℕ, ◌+◌, ◌*◌, ◌^◌, ◌≤◌, List, map, length, take, drop, Ok, Err}
+use Rattle.std.proofs.Common.{◌≡◌, ℕ, ◌*◌, ◌^◌, ◌≤◌, List, map, take, drop, Ok}
 use Rattle.bits.specs.Gf2.{flat, inverse_of, width_of}
 use Rattle.cipher.specs.Sets.{joined}
 use Rattle.drawing.specs.Streams.{Sees, Stream}

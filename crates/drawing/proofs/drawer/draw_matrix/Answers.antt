@@ -1,11 +1,9 @@
-use Rattle.std.proofs.Common.{◌≡◌, ℕ, ◌+◌, ◌-◌, ◌*◌, ◌^◌, ◌<◌, ◌≤◌, List, [], ◌∷◌, ◌++◌, length, take, drop, Ok, Err, sym, refl, ap, ◌∙◌, subst, zero-mul, arith, length-drop, length-take}
-use borrow.Rule.Slice.PartMut.{put_mid}
+use Rattle.std.proofs.Common.{◌≡◌, ℕ, ◌+◌, ◌-◌, ◌*◌, ◌<◌, ◌≤◌, List, [], ◌∷◌, ◌++◌, length, take, drop, Ok, sym, refl, ap, ◌∙◌, subst, zero-mul, arith, length-drop, length-take}
 use Rattle.std.proofs.lemmas.List.{take_all}
 use Rattle.std.proofs.lemmas.Result.{err_from_is_err_and, IfOk-from_err}
 use Rattle.bits.specs.Gf2.{flat, width_of, words_of}
 use Rattle.bits.proofs.Vectors.{length_words_of, row_ends}
 use Rattle.cipher.specs.Sets.{Matrix}
-use Rattle.drawing.specs.Streams.{Sees, Stream}
 use Rattle.drawing.specs.Drawing.{matrix, row}
 use Rattle.drawing.proofs.Taking.{several_more, several_none, several_stop, took_stop}
 use Rattle.drawing.proofs.Pieces.{filled, flat_push, matrix_push, one_more}

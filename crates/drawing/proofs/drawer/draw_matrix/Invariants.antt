@@ -1,4 +1,4 @@
-use Rattle.std.proofs.Common.{◌≡◌, ℕ, ◌+◌, ◌*◌, List, take, Ok, Err}
+use Rattle.std.proofs.Common.{◌≡◌, ℕ, ◌+◌, ◌*◌, List, take, Ok}
 use Rattle.bits.specs.Gf2.{flat}
 use Rattle.cipher.specs.Sets.{Matrix}
 use Rattle.drawing.specs.Streams.{Sees, Stream}

@@ -1,8 +1,6 @@
-use Rattle.std.proofs.Common.{◌≡◌, ℕ, ◌+◌, ◌-◌, ◌*◌, ◌≤◌, List, length, take, sym, refl, ap, ◌∙◌, arith}
+use Rattle.std.proofs.Common.{◌≡◌, ℕ, ◌+◌, ◌-◌, ◌*◌, ◌≤◌, List, length, take, refl, ap, ◌∙◌, arith}
 use Rattle.std.proofs.lemmas.Result.{err_from_is_err_and}
-use Rattle.bits.specs.Gf2.{flat, width_of}
 use Rattle.cipher.specs.Parameters.{block_words_of, key_words_of}
-use Rattle.cipher.specs.Sets.{prepared}
 use Rattle.drawing.specs.Drawing.{drawn_set}
 use Rattle.drawing.proofs.Taking.{took_stop}
 use Rattle.drawing.proofs.Pieces.{length_matrix}

@@ -1,11 +1,11 @@
-use Rattle.std.proofs.Common.{◌≡◌, ℕ, ◌+◌, ◌*◌, ◌/◌, ◌%◌, ◌^◌, ◌<◌, ◌≤◌, List, length, get_or, set, replicate, Some, None, Ok, Err, Option, sym, refl, ap, ◌∙◌, subst, add-zero, mul-le-mul_right, add-one, arith}
+use Rattle.std.proofs.Common.{◌≡◌, ℕ, ◌+◌, ◌*◌, ◌/◌, ◌%◌, ◌^◌, ◌<◌, List, length, get_or, set, replicate, Some, None, Ok, Err, sym, refl, ap, ◌∙◌, subst, add-zero, mul-le-mul_right, add-one, arith}
 use lib.Bits.{bit_or}
 use Rattle.std.proofs.lemmas.Nat.{or_lt, shl_whole}
 use Rattle.bits.specs.declared.refusal.Fault.{Fault}
 use Rattle.bits.specs.Gf2.{Words, value, words_of}
 use Rattle.bits.proofs.Products.{pow_step}
 use Rattle.bits.proofs.Vectors.{value_bit, value_zeros, words_set, words_of_value}
-use Rattle.drawing.specs.Streams.{Bit, Sees, Stream}
+use Rattle.drawing.specs.Streams.{Bit, Sees}
 use Rattle.drawing.specs.Drawing.{row}
 use Rattle.drawing.proofs.Taking.{row_more, row_none, row_stop, sees_here, sees_more, sees_start, words_zeros}
 use Rattle.drawing.proofs.drawer.draw_row.Goals as goal

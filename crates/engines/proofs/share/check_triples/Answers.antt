@@ -1,4 +1,4 @@
-use Rattle.std.proofs.Common.{◌≡◌, ℕ, true, false, Err, sym, ap, ◌∙◌}
+use Rattle.std.proofs.Common.{◌≡◌, true, false, Err, sym, ap, ◌∙◌}
 use Rattle.bits.specs.declared.refusal.Fault.{Fault}
 use Rattle.engines.specs.Triples.{triple_of, truth}
 use Rattle.engines.proofs.Filling.{at_false, first_false, more_true, past_true}

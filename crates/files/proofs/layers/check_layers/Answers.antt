@@ -1,4 +1,4 @@
-use Rattle.std.proofs.Common.{◌≡◌, ◌+◌, ◌*◌, [], ◌++◌, drop, sym, refl, ap, ◌∙◌, subst, ap₂, arith}
+use Rattle.std.proofs.Common.{◌≡◌, ◌++◌, drop, sym, refl, ◌∙◌, subst, ap₂, arith}
 use Rattle.bits.proofs.Vectors.{row_ends}
 use Rattle.bits.specs.Gf2.{Witness}
 use Rattle.cipher.specs.Sets.{Each}

@@ -1,4 +1,4 @@
-use Rattle.std.proofs.Common.{◌≡◌, ◌+◌, ◌-◌, ◌*◌, length, take, drop, sym, ap, ◌∙◌, subst, ap₂, arith}
+use Rattle.std.proofs.Common.{◌≡◌, ◌+◌, ◌-◌, ◌*◌, take, drop, ap, ◌∙◌, subst, ap₂, arith}
 use Rattle.bits.specs.Gauss.{Outcome}
 use Rattle.bits.specs.Gf2.{flat, width_of}
 use Rattle.files.specs.Format.{byte_rows, byte_width_of}

@@ -1,4 +1,4 @@
-use Rattle.std.proofs.Common.{◌*◌, ◌≤◌, length, sym, ◌∙◌, mul-le-mul, arith}
+use Rattle.std.proofs.Common.{◌≤◌, length, sym, ◌∙◌, mul-le-mul, arith}
 use Rattle.std.proofs.lemmas.List.{length-take-le}
 use Rattle.bits.specs.Gf2.{width_of}
 use Rattle.files.proofs.layers.invert_record.Goals as goal

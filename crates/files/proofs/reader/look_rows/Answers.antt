@@ -1,8 +1,7 @@
-use Rattle.std.proofs.Common.{◌≡◌, ℕ, suc, ◌+◌, ◌-◌, ◌*◌, ◌%◌, ◌^◌, ◌<◌, ◌≤◌, List, length, get_or, drop, Err, Result, sym, ap, ◌∙◌, ap₂, suc-mul, add-one, arith, length-drop, pow_mono}
+use Rattle.std.proofs.Common.{◌≡◌, ℕ, ◌+◌, ◌-◌, ◌*◌, ◌%◌, ◌^◌, ◌≤◌, get_or, drop, Err, sym, ap, ◌∙◌, ap₂, suc-mul, add-one, arith, length-drop, pow_mono}
 use Rattle.std.proofs.lemmas.List.{drop-drop, get_or-drop}
 use Rattle.bits.specs.declared.refusal.Refusal.TheVariants.{StrayBit}
 use Rattle.bits.specs.declared.refusal.Layer.TheVariants.{File}
-use Rattle.bits.specs.declared.refusal.Fault.{Fault}
 use Rattle.bits.specs.Refusals.{fault_at}
 use Rattle.files.specs.Faults.{body_slots, seen}
 use Rattle.files.proofs.Looks.{rows_more, rows_short, rows_stray}

@@ -1,13 +1,11 @@
-use Rattle.std.proofs.Common.{◌≡◌, ℕ, ◌+◌, ◌*◌, ◌≤◌, List, ◌++◌, length, drop, Ok, Err, Result, sym, refl, ap, ◌∙◌, subst, ap₂, arith, length-drop, length-take, Bor}
+use Rattle.std.proofs.Common.{◌≡◌, ℕ, List, length, drop, Ok, Err, sym, refl, ap, ◌∙◌, subst, ap₂, arith, length-drop, length-take, Bor}
 use Rattle.std.proofs.lemmas.List.{take_rest}
 use Rattle.std.proofs.lemmas.Result.{err_from_is_err_and}
-use Rattle.bits.specs.declared.refusal.Fault.{Fault}
-use Rattle.bits.specs.Refusals.{then}
 use Rattle.cipher.specs.declared.params.Params.{Params}
 use Rattle.cipher.specs.Sets.{Each}
 use Rattle.files.specs.Format.{byte_width_of, matrices_of, set_of}
-use Rattle.files.specs.Preparing.{Checked, Found}
-use Rattle.files.specs.Reading.{Prepared, header, judged_all, passed, room}
+use Rattle.files.specs.Preparing.{Found}
+use Rattle.files.specs.Reading.{Prepared, header, judged_all, room}
 use Rattle.cipher.specs.Laws.{Invertible}
 use Rattle.files.specs.Steps.{State, after_header, state_of}
 use Rattle.files.specs.Surveys.{Sound, judged_from}

@@ -1,4 +1,4 @@
-use Rattle.std.proofs.Common.{◌≡◌, length, sym, ap, ◌∙◌, arith}
+use Rattle.std.proofs.Common.{◌≡◌, length, ap, ◌∙◌, arith}
 use Rattle.bits.specs.Gf2.{words_of}
 use Rattle.files.specs.Format.{byte_value}
 use Rattle.files.proofs.Pieces.{all_written, row_more}

@@ -1,4 +1,4 @@
-use Rattle.std.proofs.Common.{◌≡◌, ℕ, ◌^◌, ◌<◌, sym, refl, ap, ◌∙◌, arith}
+use Rattle.std.proofs.Common.{◌≡◌, ℕ, sym, refl, ap, ◌∙◌, arith}
 use Rattle.drawing.specs.Grain.{begun, ones, shift, shifted}
 use Rattle.drawing.proofs.Register.{shifted_more}
 use Rattle.drawing.proofs.grain.GrainSource.new.Goals as goal

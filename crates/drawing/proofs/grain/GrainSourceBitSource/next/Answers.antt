@@ -1,4 +1,4 @@
-use Rattle.std.proofs.Common.{◌≡◌, ℕ, ◌+◌, ◌<◌, sym, ap, ◌∙◌, subst, arith}
+use Rattle.std.proofs.Common.{◌≡◌, ℕ, sym, ap, ◌∙◌, arith}
 use Rattle.drawing.specs.Grain.{new_bit_of, shift}
 use Rattle.drawing.proofs.Register.{gave, gave_nothing, pair_given, pair_nothing}
 use Rattle.drawing.proofs.grain.GrainSourceBitSource.next.Goals as goal

@@ -1,7 +1,7 @@
-use Rattle.std.proofs.Common.{◌≡◌, Some, None, Ok, Err, Option, sym, refl, ap, ◌∙◌, subst}
+use Rattle.std.proofs.Common.{Ok, Err, Option, sym, refl, ap, ◌∙◌, subst}
 use Rattle.std.proofs.lemmas.Result.{err_from_is_err_and}
 use Rattle.files.specs.declared.reader.Record.{Record}
-use Rattle.files.specs.Steps.{Stepped, seen_of, state_of}
+use Rattle.files.specs.Steps.{Stepped, state_of}
 use Rattle.files.specs.Surveys.{Advanced}
 use Rattle.files.proofs.Advance.{refused_by_look, refused_by_step, step_ends, step_goes_on}
 use Rattle.files.proofs.reader.Reader.advance.Goals as goal

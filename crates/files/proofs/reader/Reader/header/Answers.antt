@@ -1,7 +1,6 @@
-use Rattle.std.proofs.Common.{◌≡◌, IfOk, Ok, Err, Option, sym, refl, ap, ◌∙◌, subst}
+use Rattle.std.proofs.Common.{◌≡◌, IfOk, Ok, Err, sym, ap, ◌∙◌, subst}
 use Rattle.std.proofs.lemmas.Result.{err_from_is_err_and}
-use Rattle.files.specs.declared.reader.Record.{Record}
-use Rattle.files.specs.Steps.{State, Stepped, after_header, at_start, state_of, step_of}
+use Rattle.files.specs.Steps.{Stepped, after_header, state_of, step_of}
 use Rattle.files.proofs.Verdict.{header_read, header_refused}
 use Rattle.files.proofs.reader.Reader.header.Goals as goal
 
