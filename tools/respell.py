@@ -35,6 +35,7 @@ APART = {
     "blockWords": "block_words_of",
     "keyWords": "key_words_of",
     "preparedWords": "prepared_words_of",
+    "constantsFrom": "constants_place",
     "inversesFrom": "inverses_place",
     "keysFrom": "keys_place",
     "lowestOne": "lowest_one_of",

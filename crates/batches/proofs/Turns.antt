@@ -8,7 +8,7 @@ use Rattle.bits.proofs.Rank.{mul_mul}
 use Rattle.bits.proofs.Vectors.{row_ends}
 use Rattle.cipher.specs.declared.params.Params.{Params}
 use Rattle.cipher.specs.declared.places.Places.{Places}
-use Rattle.cipher.specs.Instances.{constants_from, keys_place, set_in, times}
+use Rattle.cipher.specs.Instances.{constants_place, keys_place, set_in, times}
 use Rattle.cipher.specs.LowMC.{round, substitution, unsubstitution}
 use Rattle.cipher.specs.Parameters.{block_words_of, key_words_of}
 use Rattle.cipher.specs.Places.{constant_at, matrix_at, places_of, unround_by}
@@ -56,9 +56,9 @@ pub constant_below : (p : Params) (ws : List ℕ) → LawfulSet (set_in p ws) �
     → constant_at (block_words_of p) at.constant ws < 2 ^ p.n
 constant_below p ws g i h at ea =
     let w : ℕ = block_words_of p in
-    let b = below_at p.n (rows w p.r (drop (constants_from p) ws)) i g.constants.narrow in
-    let is : get_or (rows w p.r (drop (constants_from p) ws)) i 0 ≡ constant_of p ws i =
-    rows_at w p.r i (drop (constants_from p) ws) h ∙ ap (λ (l : List ℕ). value (take w l)) (drop-drop (i * w) (constants_from p) ws) in
+    let b = below_at p.n (rows w p.r (drop (constants_place p) ws)) i g.constants.narrow in
+    let is : get_or (rows w p.r (drop (constants_place p) ws)) i 0 ≡ constant_of p ws i =
+    rows_at w p.r i (drop (constants_place p) ws) h ∙ ap (λ (l : List ℕ). value (take w l)) (drop-drop (i * w) (constants_place p) ws) in
     subst (λ (x : ℕ). x < 2 ^ p.n) (is ∙ ap (λ (x : Places). constant_at w x.constant ws) (sym ea)) b
 
 -- ---- gates

@@ -1,4 +1,4 @@
--- Vectors over GF(2) are numbers: bit j of the vector is bit j of the number, and addition is bitXor.
+-- Vectors over GF(2) are numbers: bit j of the vector is bit j of the number, and addition is bit_xor.
 -- A matrix is the list of its rows. In memory a vector is a run of 64-bit words, lowest first.
 use Rattle.std.specs.Prelude.{◌≡◌, ℕ, zero, suc, ◌+◌, ◌*◌, ◌/◌, ◌%◌, ◌^◌, ◌<◌, Bool, cond, ◌⊎◌, List, [], ◌∷◌, ◌++◌, length, take, drop, Some, None, Option, bit_and, bit_xor, nat_eq, slice_index}
 

@@ -4,7 +4,7 @@ use Rattle.bits.proofs.Vectors.{row_ends}
 use Rattle.cipher.specs.declared.params.Params.{Params}
 use Rattle.cipher.specs.declared.places.Places.{Places}
 use Rattle.cipher.specs.Parameters.{Lawful, block_words_of, key_words_of, layer_words, prepared_words_of}
-use Rattle.cipher.specs.Instances.{constants_from, inverses_place, keys_place}
+use Rattle.cipher.specs.Instances.{constants_place, inverses_place, keys_place}
 use Rattle.cipher.specs.Places.{places_of}
 
 pub record Small (p : Params) : Type 0 where
@@ -42,7 +42,7 @@ small p l =
 -- the parts of the set, and of round i
 pub record Placed (p : Params) (i : ℕ) : Type 0 where
   pub layer : i * (p.n * block_words_of p) + p.n * block_words_of p ≤ prepared_words_of p
-  pub constant : constants_from p + i * block_words_of p + block_words_of p ≤ prepared_words_of p
+  pub constant : constants_place p + i * block_words_of p + block_words_of p ≤ prepared_words_of p
   pub first : keys_place p + p.n * key_words_of p ≤ prepared_words_of p
   pub key : keys_place p + (i + 1) * (p.n * key_words_of p) + p.n * key_words_of p ≤ prepared_words_of p
   pub inverse : inverses_place p + i * (p.n * block_words_of p) + p.n * block_words_of p ≤ prepared_words_of p

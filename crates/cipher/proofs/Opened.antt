@@ -15,7 +15,7 @@ use Rattle.cipher.specs.declared.params.Params.{Params}
 use Rattle.cipher.specs.Parameters.{Lawful, block_words_of, key_words_of, prepared_words_of}
 use Rattle.cipher.specs.Sets.{Each, LawfulSet, Matrix}
 use Rattle.cipher.specs.Laws.{Invertible}
-use Rattle.cipher.specs.Instances.{constants_from, first_stray_of, first_wrong_of, inverses_place, inverses_in, keys_place, matrices_in, opening, same, set_in, stray_at, times, units, word_limits, wrong_at}
+use Rattle.cipher.specs.Instances.{constants_place, first_stray_of, first_wrong_of, inverses_place, inverses_in, keys_place, matrices_in, opening, same, set_in, stray_at, times, units, word_limits, wrong_at}
 use Rattle.cipher.specs.Sound.{Sound, TrueInverses, held_of, params_in, passes}
 use Rattle.cipher.proofs.Bounds.{small}
 use Rattle.cipher.proofs.Limits.{limits_facts}
@@ -128,7 +128,7 @@ module _ (p : Params) (ws : List ℕ) (limits : Lawful p) (room : prepared_words
         rounds = length_matrices (block_words_of p) p.n p.r ws;
         layers = each_matrices p.n (block_words_of p) p.n p.r ws b.0;
         constants = record {
-          size = length_rows (block_words_of p) p.r (drop (constants_from p) ws);
+          size = length_rows (block_words_of p) p.r (drop (constants_place p) ws);
           narrow = subst (λ (k : ℕ). Below p.n (rows (block_words_of p) p.r (drop k ws))) (mul_assoc p.r p.n (block_words_of p)) b.1;
         };
         key_rounds = length_matrices (key_words_of p) p.n (p.r + 1) (drop (keys_place p) ws);

@@ -18,7 +18,7 @@ use Rattle.cipher.specs.declared.params.Params.{Params}
 use Rattle.cipher.specs.Parameters.{block_words_of, key_words_of, layer_words, prepared_words_of}
 use Rattle.cipher.specs.Sets.{Each, LawfulSet, Matrix, Set, joined, prepared}
 use Rattle.cipher.specs.Laws.{Invertible}
-use Rattle.cipher.specs.Instances.{constants_from, first_stray_of, first_wrong_of, inverses_place, inverses_in, keys_place, many_limits, matrices_in, opening, row_limits, same, set_in, stray_at, times, units, word_limits, wrong_at}
+use Rattle.cipher.specs.Instances.{constants_place, first_stray_of, first_wrong_of, inverses_place, inverses_in, keys_place, many_limits, matrices_in, opening, row_limits, same, set_in, stray_at, times, units, word_limits, wrong_at}
 use Rattle.cipher.proofs.Bounds.{small}
 use Rattle.cipher.proofs.Limits.{facts_limits}
 use Rattle.cipher.proofs.Opened.{units_mul}
@@ -244,7 +244,7 @@ module _ (s : Set) (h : LawfulSet s) (v : Each Invertible s.layers) (rest : List
   inverse_rounds = length_map s.layers ∙ h.rounds
 
   -- their lengths
-  long_ls : length Ls ≡ constants_from p
+  long_ls : length Ls ≡ constants_place p
   long_ls = length_flat (block_words_of p) (joined s.layers) ∙ ap (λ (k : ℕ). k * block_words_of p) (length_joined p.n p.n p.r s.layers h.rounds h.layers) ∙ mul_assoc p.r p.n (block_words_of p)
 
   long_cs : length Cs ≡ p.r * block_words_of p
@@ -264,11 +264,11 @@ module _ (s : Set) (h : LawfulSet s) (v : Each Invertible s.layers) (rest : List
   prepared_long = simp length-append (omega (arith, long_ls, long_cs, long_ks, long_ms))
 
   -- what stands from their places on
-  from_cs : drop (constants_from p) ws ≡ Cs ++ (Ks ++ (Ms ++ rest))
-  from_cs = ap (drop (constants_from p)) parts ∙ drop_at Ls (Cs ++ (Ks ++ (Ms ++ rest))) (constants_from p) long_ls
+  from_cs : drop (constants_place p) ws ≡ Cs ++ (Ks ++ (Ms ++ rest))
+  from_cs = ap (drop (constants_place p)) parts ∙ drop_at Ls (Cs ++ (Ks ++ (Ms ++ rest))) (constants_place p) long_ls
 
   from_ks : drop (keys_place p) ws ≡ Ks ++ (Ms ++ rest)
-  from_ks = sym (drop-drop (p.r * block_words_of p) (constants_from p) ws) ∙ ap (drop (p.r * block_words_of p)) from_cs ∙ drop_at Cs (Ks ++ (Ms ++ rest)) (p.r * block_words_of p) long_cs
+  from_ks = sym (drop-drop (p.r * block_words_of p) (constants_place p) ws) ∙ ap (drop (p.r * block_words_of p)) from_cs ∙ drop_at Cs (Ks ++ (Ms ++ rest)) (p.r * block_words_of p) long_cs
 
   from_ms : drop (inverses_place p) ws ≡ Ms ++ rest
   from_ms =

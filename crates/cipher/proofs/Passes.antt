@@ -6,7 +6,7 @@ use Rattle.bits.specs.Gf2.{inverse_of, mul, rows, value}
 use Rattle.cipher.specs.declared.params.Params.{Params}
 use Rattle.cipher.specs.declared.places.Places.{Places}
 use Rattle.cipher.specs.Parameters.{block_words_of, key_words_of}
-use Rattle.cipher.specs.Instances.{constants_from, inverses_place, inverses_in, keys_place, matrices_in, set_in}
+use Rattle.cipher.specs.Instances.{constants_place, inverses_place, inverses_in, keys_place, matrices_in, set_in}
 use Rattle.cipher.specs.LowMC.{decrypt, decrypt_with, encrypt, encrypt_with, round, rounds, substitution, unround, unrounds, unsubstitution}
 use Rattle.cipher.specs.Places.{constant_at, matrix_at, places_of, unround_by}
 
@@ -100,7 +100,7 @@ module _ (p : Params) (ws : List ℕ) where
   layers_open i h = matrices_open (block_words_of p) p.n p.r i _ _ ws h (next_zero i (p.n * block_words_of p))
 
   pub constants_open : (i : ℕ) → i < p.r → constants_left p ws i ≡ constant_of p ws i ∷ constants_left p ws (i + 1)
-  constants_open i h = rows_open_at (block_words_of p) p.r i _ _ ws h (next (constants_from p) i (block_words_of p))
+  constants_open i h = rows_open_at (block_words_of p) p.r i _ _ ws h (next (constants_place p) i (block_words_of p))
 
   pub keys_open : (i : ℕ) → i < p.r → keys_left p ws i ≡ key_at p ws i ∷ keys_left p ws (i + 1)
   keys_open i h = matrices_open (key_words_of p) p.n p.r i _ _ ws h (next (keys_place p) (i + 1) (p.n * key_words_of p))
@@ -113,7 +113,7 @@ module _ (p : Params) (ws : List ℕ) where
 
   pub constants_all : constants_left p ws 0 ≡ (set_in p ws).constants
   constants_all =
-      let e : constants_from p + 0 * block_words_of p ≡ constants_from p = omega (arith, zero-mul (block_words_of p)) in
+      let e : constants_place p + 0 * block_words_of p ≡ constants_place p = omega (arith, zero-mul (block_words_of p)) in
       let z : p.r - 0 ≡ p.r = omega arith in
       ap₂ (λ (k i : ℕ). rows (block_words_of p) k (drop i ws)) z e
 

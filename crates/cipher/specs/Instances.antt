@@ -18,11 +18,11 @@ matrices_in w n zero ws = []
 matrices_in w n (suc r) ws = rows w n ws ∷ matrices_in w n r (drop (n * w) ws)
 
 -- where the constants, the key matrices and the inverses begin
-abbrev pub constants_from : Params → ℕ
-constants_from p = layer_words p
+abbrev pub constants_place : Params → ℕ
+constants_place p = layer_words p
 
 abbrev pub keys_place : Params → ℕ
-keys_place p = constants_from p + p.r * block_words_of p
+keys_place p = constants_place p + p.r * block_words_of p
 
 abbrev pub inverses_place : Params → ℕ
 inverses_place p = keys_place p + (p.r + 1) * (p.n * key_words_of p)
@@ -31,7 +31,7 @@ abbrev pub set_in : Params → List ℕ → Set
 set_in p ws = record {
   params = p;
   layers = matrices_in (block_words_of p) p.n p.r ws;
-  constants = rows (block_words_of p) p.r (drop (constants_from p) ws);
+  constants = rows (block_words_of p) p.r (drop (constants_place p) ws);
   keys = matrices_in (key_words_of p) p.n (p.r + 1) (drop (keys_place p) ws);
 }
 

@@ -4,14 +4,14 @@ use Rattle.bits.specs.Gf2.{mul, rows, value}
 use Rattle.cipher.specs.declared.params.Params.{Params}
 use Rattle.cipher.specs.declared.places.Places.{Places}
 use Rattle.cipher.specs.Parameters.{block_words_of, key_words_of}
-use Rattle.cipher.specs.Instances.{constants_from, inverses_place, keys_place}
+use Rattle.cipher.specs.Instances.{constants_place, inverses_place, keys_place}
 use Rattle.cipher.specs.LowMC.{unsubstitution}
 
 -- of the round i, from 0
 abbrev pub places_of : Params → ℕ → Places
 places_of p i = record {
   layer = i * (p.n * block_words_of p);
-  constant = constants_from p + i * block_words_of p;
+  constant = constants_place p + i * block_words_of p;
   key = keys_place p + (i + 1) * (p.n * key_words_of p);
   inverse = inverses_place p + i * (p.n * block_words_of p);
 }

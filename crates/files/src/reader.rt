@@ -4,7 +4,7 @@ ghost use Rattle.files.specs.Faults.{body_slots, record_slots, seen};
 ghost use Rattle.files.specs.Format.{byte_width_of, first, second};
 ghost use Rattle.files.specs.Walks.{WholeFile};
 ghost use Rattle.files.specs.Steps.{Numbered, Stepped, after_header, at_start, body_size_of, head_size_of, mark_of, params_at, state_of};
-ghost use Rattle.files.specs.Reading.{header as headerIn};
+ghost use Rattle.files.specs.Reading.{header as header_in};
 ghost use Rattle.files.specs.Surveys.{Advanced, Sound, judged_from, look_of};
 
 use bits::refusal::{Fault, Layer as Part, Refusal};
@@ -209,7 +209,7 @@ impl<'a> Reader<'a> {
     pub(crate) fn header(&mut self) -> Result<Params, Fault>
         requires { state_of self.old ≡ at_start }
         ensures file { self.new.file ≡ self.old.file }
-        ensures value { result ≡ headerIn self.old.file.now }
+        ensures value { result ≡ header_in self.old.file.now }
         ensures state { IfOk result (λ p. state_of self.new ≡ after_header p) }
     {
         self.step()?;
