@@ -14,9 +14,9 @@ use crate::guard::Wipe;
 use crate::instance::Instance;
 use crate::params::Params;
 use crate::round::{decrypt_state, encrypt_state};
+use crate::state::fitting;
 use crate::stray::first_stray;
 use bits::refusal::{Fault, Layer, Refusal};
-use bits::words::fitting;
 
 // Work words of a call: a state and a spare one, of at most 4 words each.
 const WORK: usize = 8;

@@ -241,28 +241,28 @@ file_passes s h =
     let end : List ℕ = first End ∷ second End ∷ [] in
     let RL : List ℕ = records_of Layer w 1 s.layers in
     let RC : List ℕ = records_of Constant w 1 (single s.constants) in
-    let ResultKind : List ℕ = records_of Key v 0 s.keys in
+    let RK : List ℕ = records_of Key v 0 s.keys in
     let ones : Each (Matrix 1 p.n) (single s.constants) = single_each p.n s.constants h.constants.narrow in
     let count : length (single s.constants) ≡ p.r = length_single s.constants ∙ h.constants.size in
-    let mK : Meets (keys_due p 0 (p.r + 1)) (ResultKind ++ end) =
-    subst (λ (n : ℕ). Meets (keys_due p 0 n) (ResultKind ++ end)) h.key_rounds (series_meets Key p.k p.n 0 s.keys end_slots end h.keys (refl, refl, refl)) in
-    let mC : Meets (constants_due p 1 p.r) (RC ++ (ResultKind ++ end)) =
-    subst (λ (n : ℕ). Meets (constants_due p 1 n) (RC ++ (ResultKind ++ end))) count
-    (series_meets Constant p.n 1 1 (single s.constants) (keys_due p 0 (p.r + 1)) (ResultKind ++ end) ones mK) in
-    let mL : Meets (layers_due p 1 p.r) (RL ++ (RC ++ (ResultKind ++ end))) =
-    subst (λ (n : ℕ). Meets (layers_due p 1 n) (RL ++ (RC ++ (ResultKind ++ end)))) h.rounds
-    (series_meets Layer p.n p.n 1 s.layers (constants_due p 1 p.r) (RC ++ (ResultKind ++ end)) h.layers mC) in
+    let mK : Meets (keys_due p 0 (p.r + 1)) (RK ++ end) =
+    subst (λ (n : ℕ). Meets (keys_due p 0 n) (RK ++ end)) h.key_rounds (series_meets Key p.k p.n 0 s.keys end_slots end h.keys (refl, refl, refl)) in
+    let mC : Meets (constants_due p 1 p.r) (RC ++ (RK ++ end)) =
+    subst (λ (n : ℕ). Meets (constants_due p 1 n) (RC ++ (RK ++ end))) count
+    (series_meets Constant p.n 1 1 (single s.constants) (keys_due p 0 (p.r + 1)) (RK ++ end) ones mK) in
+    let mL : Meets (layers_due p 1 p.r) (RL ++ (RC ++ (RK ++ end))) =
+    subst (λ (n : ℕ). Meets (layers_due p 1 n) (RL ++ (RC ++ (RK ++ end)))) h.rounds
+    (series_meets Layer p.n p.n 1 s.layers (constants_due p 1 p.r) (RC ++ (RK ++ end)) h.layers mC) in
     let lL : length RL ≡ A = series_size Layer w p.n p.n 1 s.layers h.layers ∙ ap (λ (n : ℕ). n * record_size w p.n) h.rounds in
     let lC : length RC ≡ B = series_size Constant w p.n 1 1 (single s.constants) ones ∙ ap (λ (n : ℕ). n * record_size w 1) count in
-    let dC : drop (constants_at p) (file_of s) ≡ RC ++ (ResultKind ++ end) = sym (drop-drop A 8 (file_of s)) ∙ drop_at RL (RC ++ (ResultKind ++ end)) A lL in
-    let dK : drop (keys_at p) (file_of s) ≡ ResultKind ++ end =
-    sym (drop-drop B (constants_at p) (file_of s)) ∙ ap (λ (x : List ℕ). drop B x) dC ∙ drop_at RC (ResultKind ++ end) B lC in
-    let eL : matrices_of w p.n p.r (RL ++ (RC ++ (ResultKind ++ end))) ≡ s.layers =
-    ap (λ (n : ℕ). matrices_of w p.n n (RL ++ (RC ++ (ResultKind ++ end)))) (sym h.rounds)
-    ∙ series_back Layer w p.n p.n 1 s.layers (RC ++ (ResultKind ++ end)) (width_holds p.n) h.layers in
+    let dC : drop (constants_at p) (file_of s) ≡ RC ++ (RK ++ end) = sym (drop-drop A 8 (file_of s)) ∙ drop_at RL (RC ++ (RK ++ end)) A lL in
+    let dK : drop (keys_at p) (file_of s) ≡ RK ++ end =
+    sym (drop-drop B (constants_at p) (file_of s)) ∙ ap (λ (x : List ℕ). drop B x) dC ∙ drop_at RC (RK ++ end) B lC in
+    let eL : matrices_of w p.n p.r (RL ++ (RC ++ (RK ++ end))) ≡ s.layers =
+    ap (λ (n : ℕ). matrices_of w p.n n (RL ++ (RC ++ (RK ++ end)))) (sym h.rounds)
+    ∙ series_back Layer w p.n p.n 1 s.layers (RC ++ (RK ++ end)) (width_holds p.n) h.layers in
     let eC : joined (matrices_of w 1 p.r (drop (constants_at p) (file_of s))) ≡ s.constants =
     ap₂ (λ (n : ℕ) (x : List ℕ). joined (matrices_of w 1 n x)) (sym count) dC
-    ∙ ap joined (series_back Constant w p.n 1 1 (single s.constants) (ResultKind ++ end) (width_holds p.n) ones) ∙ joined_single s.constants in
+    ∙ ap joined (series_back Constant w p.n 1 1 (single s.constants) (RK ++ end) (width_holds p.n) ones) ∙ joined_single s.constants in
     let eK : matrices_of v p.n (p.r + 1) (drop (keys_at p) (file_of s)) ≡ s.keys =
     ap₂ (λ (n : ℕ) (x : List ℕ). matrices_of v p.n n x) (sym h.key_rounds) dK
     ∙ series_back Key v p.k p.n 0 s.keys end (width_holds p.k) h.keys in
@@ -275,7 +275,7 @@ file_passes s h =
         is = ap₂ (λ (x y : ℕ). params x y p.m p.r) n k;
         within = h.limits;
       }),
-      is_judged (file_of s) 8 (layers_due p 1 p.r) (meets_seen 8 (layers_due p 1 p.r) (RL ++ (RC ++ (ResultKind ++ end))) mL)
-          (omega (arith, meets_size (layers_due p 1 p.r) (RL ++ (RC ++ (ResultKind ++ end))) mL)),
+      is_judged (file_of s) 8 (layers_due p 1 p.r) (meets_seen 8 (layers_due p 1 p.r) (RL ++ (RC ++ (RK ++ end))) mL)
+          (omega (arith, meets_size (layers_due p 1 p.r) (RL ++ (RC ++ (RK ++ end))) mL)),
       ap₂ (λ (x : List (List ℕ)) (y : List ℕ). set_of_parts p x y (matrices_of v p.n (p.r + 1) (drop (keys_at p) (file_of s)))) eL eC ∙ ap (λ (x : List (List ℕ)). set_of_parts p s.layers s.constants x) eK,
     )

@@ -17,7 +17,7 @@ fn run_lists<E: Engine, F: Engine>(
     other: &mut [Entry<'_, F::Wire>],
 )
     ensures first { Run E.means E.lanes (E.acct first.old) list.old list.new (E.acct first.new) }
-    ensures second { Run F.Engine.means F.Engine.lanes (F.Engine.acct second.old) other.old other.new (F.Engine.acct second.new) }
+    ensures second { Run F.means F.lanes (F.acct second.old) other.old other.new (F.acct second.new) }
 {
     run(first, list);
     run(second, other);
@@ -33,7 +33,7 @@ pub fn run_two<E: Engine, F: Engine>(
     words: &mut [u64],
     witness: &mut [u64],
 ) -> Result<Params, Fault>
-    ensures { Sitting E.means E.lanes (E.acct first.old) (E.acct first.new) list.old list.new F.Engine.means F.Engine.lanes (F.Engine.acct second.old) (F.Engine.acct second.new) other.old other.new file.now words.old witness.old words.new witness.new result }
+    ensures { Sitting E.means E.lanes (E.acct first.old) (E.acct first.new) list.old list.new F.means F.lanes (F.acct second.old) (F.acct second.new) other.old other.new file.now words.old witness.old words.new witness.new result }
 {
     run_lists(first, list, second, other);
     read(file, words, witness)
