@@ -1,5 +1,5 @@
 -- Refusals: their numbers, and checks that run in an order.
-use Rattle.std.specs.Prelude.{ℕ, Bool, cond, List, [], ◌∷◌, Ok, Err, Result}
+use Rattle.std.specs.Prelude.{ℕ, Bool, cond, List, [], ◌∷◌, ◌++◌, Ok, Err, Result, codes, decimal}
 use Rattle.bits.specs.declared.refusal.Refusal.{Refusal}
 use Rattle.bits.specs.declared.refusal.Refusal.TheVariants.{ParameterOutOfRange, TooFewWords, Truncated, WrongMark, WrongNumber, StrayBit, LayerCollapses, NotInverse, NoInstance, WrongCount, WrongLength, OutOfGates, OverCapacity, BadTriples, KeyTooNarrow, SourceDry, NothingKept}
 use Rattle.bits.specs.declared.refusal.Layer.{Layer}
@@ -24,6 +24,13 @@ number_of BadTriples = 14
 number_of KeyTooNarrow = 15
 number_of SourceDry = 16
 number_of NothingKept = 17
+
+-- how a refusal is printed, and how one with its place is
+abbrev pub number_text : Refusal → List ℕ
+number_text r = decimal (number_of r)
+
+abbrev pub refused_text : Fault → List ℕ
+refused_text e = codes "refused: " ++ (decimal (number_of e.refusal) ++ (codes " at " ++ decimal e.place))
 
 abbrev pub fault_at : Refusal → Layer → ℕ → Fault
 fault_at r l p = record { refusal = r; layer = l; place = p }

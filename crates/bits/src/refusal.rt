@@ -1,27 +1,30 @@
 // What the library refuses, and how a refusal travels: number, layer and place together.
-ghost use Rattle.std.specs.Prelude.{◌≡◌};
-ghost use Rattle.bits.specs.Refusals.{fault_at, number_of};
+ghost use Rattle.std.specs.Prelude.{◌≡◌, Some};
+ghost use Rattle.bits.specs.Refusals.{fault_at, number_of, number_text, refused_text};
 
-// Why a call was refused. The comment at each case is its number.
+use std::error::Error;
+use std::fmt;
+
+// Why a call was refused, with the number by which users know it.
 #[derive(Clone, Copy, PartialEq, Eq, Debug)]
 pub enum Refusal {
-    ParameterOutOfRange, // 1
-    TooFewWords, // 2
-    Truncated, // 3
-    WrongMark, // 4
-    WrongNumber, // 5
-    StrayBit, // 6
-    LayerCollapses, // 7
-    NotInverse, // 8
-    NoInstance, // 9
-    WrongCount, // 10
-    WrongLength, // 11
-    OutOfGates, // 12
-    OverCapacity, // 13
-    BadTriples, // 14
-    KeyTooNarrow, // 15
-    SourceDry, // 16
-    NothingKept, // 17
+    ParameterOutOfRange = 1,
+    TooFewWords = 2,
+    Truncated = 3,
+    WrongMark = 4,
+    WrongNumber = 5,
+    StrayBit = 6,
+    LayerCollapses = 7,
+    NotInverse = 8,
+    NoInstance = 9,
+    WrongCount = 10,
+    WrongLength = 11,
+    OutOfGates = 12,
+    OverCapacity = 13,
+    BadTriples = 14,
+    KeyTooNarrow = 15,
+    SourceDry = 16,
+    NothingKept = 17,
 }
 
 // The part of the library that refused.
@@ -47,25 +50,17 @@ impl Refusal {
     pub fn number(self) -> u8
         ensures { result ≡ number_of self }
     {
-        match self {
-            Refusal::ParameterOutOfRange => 1,
-            Refusal::TooFewWords => 2,
-            Refusal::Truncated => 3,
-            Refusal::WrongMark => 4,
-            Refusal::WrongNumber => 5,
-            Refusal::StrayBit => 6,
-            Refusal::LayerCollapses => 7,
-            Refusal::NotInverse => 8,
-            Refusal::NoInstance => 9,
-            Refusal::WrongCount => 10,
-            Refusal::WrongLength => 11,
-            Refusal::OutOfGates => 12,
-            Refusal::OverCapacity => 13,
-            Refusal::BadTriples => 14,
-            Refusal::KeyTooNarrow => 15,
-            Refusal::SourceDry => 16,
-            Refusal::NothingKept => 17,
-        }
+        self as u8
+    }
+}
+
+// Its number.
+impl fmt::Display for Refusal {
+    ghost output = { λ r. Some (number_text r) };
+
+    fn fmt<W: fmt::Write>(&self, f: &mut fmt::Formatter<W>) -> fmt::Result {
+        let number = self.number();
+        write!(f, "{number}")
     }
 }
 
@@ -81,3 +76,16 @@ impl Fault {
         }
     }
 }
+
+// Its number and its place.
+impl fmt::Display for Fault {
+    ghost output = { λ e. Some (refused_text e) };
+
+    fn fmt<W: fmt::Write>(&self, f: &mut fmt::Formatter<W>) -> fmt::Result {
+        let number = self.refusal.number();
+        let place = self.place;
+        write!(f, "refused: {number} at {place}")
+    }
+}
+
+impl Error for Fault {}
