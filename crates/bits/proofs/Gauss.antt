@@ -1,5 +1,5 @@
 -- Digits of vectors, and one step of the elimination, on rows as numbers.
-use Rattle.std.proofs.Common.{◌≡◌, ℕ, zero, suc, ◌+◌, ◌-◌, ◌*◌, ◌/◌, ◌%◌, ◌^◌, ◌<◌, ◌≤◌, min, ◌≢◌, List, [], ◌∷◌, length, get_or, sym, refl, ap, ◌∙◌, subst, ap₂, mul_comm, arith}
+use Rattle.std.proofs.Common.{◌≡◌, ℕ, zero, suc, ◌+◌, ◌-◌, ◌*◌, ◌/◌, ◌%◌, ◌^◌, ◌<◌, ◌≤◌, min, ◌≢◌, List, [], ◌∷◌, length, get_or, MatchOption, None, Some, Option, sym, refl, ap, ◌∙◌, subst, ap₂, mul_comm, arith}
 use native.Mathlib.Decide.{ℕ_discrete}
 use lib.Bits.{bit_and, bit_xor, and_block, and_lt, xor_lt}
 use Rattle.bits.specs.Gf2.{dot, parity, mul}
@@ -168,5 +168,12 @@ carried_trans n f g h a b = record {
   narrow = λ m s. b.narrow m (a.narrow m s);
 }
 
-pub missing_more : (k c : ℕ) (f : ℕ → ℕ) → Missing k c f → dot (2 ^ c) (f k) ≡ 0 → Missing (k + 1) c f
-missing_more k c f s e i a b = elim (ℕ_discrete i k) [ yes q ↦ ap (λ (j : ℕ). dot (2 ^ c) (f j)) q ∙ e | no d ↦ s i a (omega arith) ]
+zero_where_not_one : (b : ℕ) → b < 2 → (b ≡ 1 → ⊥) → b ≡ 0
+zero_where_not_one b h never = omega (arith, never)
+
+-- what the search for a row with bit c says
+pub found_row : (r : Option ℕ) (c n : ℕ) (f : ℕ → ℕ)
+    → MatchOption r ((k : ℕ) → c ≤ k → k < n → dot (2 ^ c) (f k) ≡ 1 → ⊥) (λ i. (c ≤ i) × (i < n) × (dot (2 ^ c) (f i) ≡ 1) × ((k : ℕ) → c ≤ k → k < i → dot (2 ^ c) (f k) ≡ 1 → ⊥))
+    → MatchOption r (Missing n c f) (λ k. (c ≤ k) × (k < n) × (dot (2 ^ c) (f k) ≡ 1))
+found_row None c n f never = λ k a b. zero_where_not_one (dot (2 ^ c) (f k)) (dot_below (2 ^ c) (f k)) (never k a b)
+found_row (Some i) c n f here = (here.0, here.1, here.2)

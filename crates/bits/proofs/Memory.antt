@@ -116,13 +116,12 @@ reduced w n c r v m work copy pivot cleared new cr rn has room size ev em at is 
         ∙ rows_map w n k (clear (2 ^ c) (value pivot)) work cleared h (subst (λ (j : ℕ). rows j n cleared ≡ map (clear (2 ^ c) (value pivot)) (rows j n work)) ev clears)
 
 -- the second half of row k
-pub row_high : (w k : ℕ) (ws : List ℕ) → Words ws → k * (2 * w) + 2 * w ≤ length ws → value (take w (drop (k * (2 * w) + w) ws)) ≡ row_at (2 * w) ws k / 2 ^ (64 * w)
+pub row_high : (w k : ℕ) (ws : List ℕ) → Words ws → k * (2 * w) + 2 * w ≤ length ws
+    → value (take (length (take (2 * w) (drop (k * (2 * w)) ws)) - w) (drop w (take (2 * w) (drop (k * (2 * w)) ws)))) ≡ row_at (2 * w) ws k / 2 ^ (64 * w)
 row_high w k ws f h =
-    let xs : List ℕ = drop (k * (2 * w)) ws in
-    let e : w + w ≡ 2 * w = omega arith in
-    ap (λ (ys : List ℕ). value (take w ys)) (sym (drop-drop w (k * (2 * w)) ws))
-    ∙ ap value (sym (drop-take w w xs) ∙ ap (λ (j : ℕ). drop w (take j xs)) e)
-    ∙ value_high w (take (2 * w) xs) (words_take (2 * w) xs (words_drop (k * (2 * w)) ws f)) (simp (length-take, length-drop) (omega arith))
+    let xs : List ℕ = take (2 * w) (drop (k * (2 * w)) ws) in
+    ap value (take_all (length xs - w) (drop w xs) (simp length-drop (omega arith)))
+    ∙ value_high w xs (words_take (2 * w) (drop (k * (2 * w)) ws) (words_drop (k * (2 * w)) ws f)) (simp (length-take, length-drop) (omega arith))
 
 -- the step of `eliminate`
 pub eliminate_more : (n c v w : ℕ) (first old new : List ℕ) → v ≡ w → Solved n (c + 1) (row_at v new) → Carried n (row_at v old) (row_at v new)

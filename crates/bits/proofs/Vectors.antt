@@ -8,6 +8,7 @@ use lib.Count.{ones, ones_cat}
 use Rattle.std.proofs.lemmas.List.{drop-drop, drop_more, drop_all, drop_at, drop-take, get_or_past, take-append-drop, take_at, take-take, map-append}
 use Rattle.std.proofs.lemmas.Slice.{take-put_mid_below, between-put_mid, drop-put_mid}
 use borrow.Rule.Slice.PartMut.{put_mid, same_len_mid}
+use Rattle.std.specs.List.{fold, zip}
 use Rattle.bits.specs.Gf2.{Below, Independent, Words, dot, flat, mul, parity, rows, value, words_of}
 use Rattle.bits.specs.Gauss.{clear}
 use Rattle.bits.proofs.Products.{parity_step, parity_below, parity_ones, xor_low, xor_half, dot_below, dot_zero_l, dot_zero_r, mul_below}
@@ -353,8 +354,10 @@ rows_flat w (x ∷ xs) b =
     ∙ ap₂ (λ (p : ℕ) (q : List ℕ). p ∷ q) (value_words_of w x b.0) (rows_flat w xs b.1)
 
 -- rows that were copied to the front of other memory
-pub rows_copied : (w v n : ℕ) (ws copy rest : List ℕ) → v ≡ w → copy ≡ ws → rows v n (take (length ws) (copy ++ rest)) ≡ rows w n ws
-rows_copied w v n ws copy rest e is = ap₂ (λ (k : ℕ) (xs : List ℕ). rows k n xs) e (take_at copy rest (length ws) (ap length is) ∙ is)
+pub rows_copied : (w n : ℕ) (ws copy rest : List ℕ) → n * w ≤ length ws → copy ≡ take (n * w) ws → rows w n (take (n * w) (copy ++ rest)) ≡ rows w n ws
+rows_copied w n ws copy rest fits is =
+    let long : length copy ≡ n * w = ap length is ∙ simp length-take (omega arith) in
+    ap (rows w n) (take_at copy rest (n * w) long ∙ is) ∙ rows_take w n ws
 
 -- ---- the step of `independent`
 
@@ -394,50 +397,24 @@ row_left i n w h =
 pub length_put_mid : (a : ℕ) (xs ys : List ℕ) → a ≤ length xs → length ys ≡ length xs - a → length (put_mid a (length xs - a) xs ys) ≡ length xs
 length_put_mid a xs ys h e = same_len_mid a (length xs - a) xs ys (e ∙ sym (simp (length-take, length-drop) (omega arith)))
 
-pub independent_more : (w n i j : ℕ) (m r s : List ℕ) (Q : Type 0) → i < n → length m ≡ n * w → length r ≡ w
-    → r ≡ take (i * w + w - i * w) (drop (i * w) m) → dot (2 ^ j) (value r) ≡ 1
-    → length s ≡ length m - (i * w + w)
-    → rows (length r) (n - 1 - i) s ≡ map (clear (2 ^ j) (value r)) (rows (length r) (n - 1 - i) (take (length m - (i * w + w)) (drop (i * w + w) m)))
-    → (Independent (rows w (n - i) (drop (i * w) m)) → Q) × (Q → Independent (rows w (n - i) (drop (i * w) m)))
-    → (Independent (rows w (n - (i + 1)) (drop ((i + 1) * w) (put_mid (i * w + w) (length m - (i * w + w)) m s))) → Q)
-    × (Q → Independent (rows w (n - (i + 1)) (drop ((i + 1) * w) (put_mid (i * w + w) (length m - (i * w + w)) m s))))
-independent_more w n i j m r s Q h size rsize is one ssize cleared inv =
-    elim_on (2 ^ j) (value r) (rows w (n - 1 - i) (drop (i * w + w) m)) (rows w (n - i) (drop (i * w) m))
-    (rows w (n - (i + 1)) (drop ((i + 1) * w) new)) Q one opened shut inv
+-- the step of `independent_in`: r is the first of the rows m, and s are the others, of which it was taken out
+pub independent_next : (w i n j : ℕ) (m r s : List ℕ) (Q : Type 0) → i < n → length r ≡ w → r ≡ take w m → dot (2 ^ j) (value r) ≡ 1
+    → rows (length r) (n - 1 - i) s ≡ map (clear (2 ^ j) (value r)) (rows (length r) (n - 1 - i) (drop w m))
+    → (Independent (rows w (n - i) m) → Q) × (Q → Independent (rows w (n - i) m)) → (Independent (rows w (n - (i + 1)) s) → Q) × (Q → Independent (rows w (n - (i + 1)) s))
+independent_next w i n j m r s Q h size is one cleared inv =
+    elim_on (2 ^ j) (value r) (rows w (n - 1 - i) (drop w m)) (rows w (n - i) m) (rows w (n - (i + 1)) s) Q one opened shut inv
   where
-    new : List ℕ
-    new = put_mid (i * w + w) (length m - (i * w + w)) m s
-
-    rest : ℕ
-    rest = length m - (i * w + w)
-
-    left : (n - 1 - i) * w ≡ rest
-    left = row_left i n w h ∙ ap (λ (k : ℕ). k - (i * w + w)) (sym size)
-
-    same : i * w + w - i * w ≡ w
-    same = omega arith
-
-    opened : rows w (n - i) (drop (i * w) m) ≡ value r ∷ rows w (n - 1 - i) (drop (i * w + w) m)
-    opened = rows_open w n i m h ∙ ap (λ (xs : List ℕ). value xs ∷ rows w (n - 1 - i) (drop (i * w + w) m)) (sym (is ∙ ap (λ (k : ℕ). take k (drop (i * w) m)) same))
-
-    past : (xs : List ℕ) → rows w (n - 1 - i) (take rest xs) ≡ rows w (n - 1 - i) xs
-    past xs = ap (λ (k : ℕ). rows w (n - 1 - i) (take k xs)) (sym left) ∙ rows_take w (n - 1 - i) xs
-
-    at : (i + 1) * w ≡ i * w + w
-    at = ap (λ (k : ℕ). k * w) (add-one i) ∙ suc-mul i w
+    more : n - i ≡ suc (n - 1 - i)
+    more = omega arith
 
     few : n - (i + 1) ≡ n - 1 - i
     few = omega arith
 
-    fits : i * w + w ≤ length m
-    fits = omega (arith, size, row_ends i n w h)
+    opened : rows w (n - i) m ≡ value r ∷ rows w (n - 1 - i) (drop w m)
+    opened = ap (λ (k : ℕ). rows w k m) more ∙ ap (λ (xs : List ℕ). value xs ∷ rows w (n - 1 - i) (drop w m)) (sym is)
 
-    shut : rows w (n - (i + 1)) (drop ((i + 1) * w) new) ≡ map (clear (2 ^ j) (value r)) (rows w (n - 1 - i) (drop (i * w + w) m))
-    shut =
-        ap₂ (λ (k p : ℕ). rows w k (drop p new)) few at ∙ sym (past (drop (i * w + w) new))
-        ∙ ap (rows w (n - 1 - i)) (between-put_mid (i * w + w) rest m s (length m) fits ssize)
-        ∙ subst (λ (k : ℕ). rows k (n - 1 - i) s ≡ map (clear (2 ^ j) (value r)) (rows k (n - 1 - i) (take rest (drop (i * w + w) m)))) rsize cleared
-        ∙ ap (map (clear (2 ^ j) (value r))) (past (drop (i * w + w) m))
+    shut : rows w (n - (i + 1)) s ≡ map (clear (2 ^ j) (value r)) (rows w (n - 1 - i) (drop w m))
+    shut = ap (λ (k : ℕ). rows w k s) few ∙ subst (λ (k : ℕ). rows k (n - 1 - i) s ≡ map (clear (2 ^ j) (value r)) (rows k (n - 1 - i) (drop w m))) size cleared
 
 -- ---- the two ways of `add_times`
 
@@ -446,3 +423,14 @@ times_one x r b e = ap (bit_xor x) (sym (ap (λ (k : ℕ). k * r) e ∙ one-mul 
 
 pub times_none : (x r b : ℕ) → b ≡ 0 → x ≡ bit_xor x (b * r)
 times_none x r b e = sym (ap (bit_xor x) (ap (λ (k : ℕ). k * r) e ∙ zero-mul r) ∙ xor_zero_r x)
+
+-- ---- folds over pairs of words
+
+pub dot_folded : (xs ys : List ℕ) (acc : ℕ) → Words xs → Words ys
+    → (parity acc + dot (value xs) (value ys)) % 2 ≡ parity (fold (λ (a : ℕ) (p : ℕ × ℕ). bit_xor a (bit_and p.0 p.1)) acc (zip xs ys))
+dot_folded [] ys acc f g = omega (arith, dot_zero_l (value ys), parity_below acc)
+dot_folded (x ∷ xs) [] acc f g = omega (arith, dot_zero_r (value (x ∷ xs)), parity_below acc)
+dot_folded (x ∷ xs) (y ∷ ys) acc f g =
+    let step = dot_word x y (value xs) (value ys) (f 0) (g 0) in
+    let next = parity_xor acc (bit_and x y) in
+    omega (arith, step, next, dot_folded xs ys (bit_xor acc (bit_and x y)) (λ i. f (suc i)) (λ i. g (suc i)))

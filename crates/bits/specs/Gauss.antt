@@ -1,8 +1,7 @@
 -- What elimination keeps. A matrix in memory is the function of its rows, each a number.
-use Rattle.std.specs.Prelude.{◌≡◌, ℕ, ◌*◌, ◌^◌, ◌<◌, ◌≤◌, List, take, drop, bit_xor}
+use Rattle.std.specs.Prelude.{◌≡◌, ℕ, ◌*◌, ◌^◌, ◌<◌, ◌≤◌, List, take, drop, Ok, Err, Result, bit_xor}
 use Rattle.bits.specs.Gf2.{Inverse, Witness, dot, flat, inverse_of, rows, value}
-use Rattle.bits.specs.declared.elimination.Inversion.{Inversion}
-use Rattle.bits.specs.declared.elimination.Inversion.TheVariants.{Done, Collapses}
+use Rattle.bits.specs.declared.elimination.Singular.{Singular}
 
 -- bit j is the lowest one of x
 pub record Lowest (x j : ℕ) : Type 0 where
@@ -55,6 +54,6 @@ pub record Refused (w n : ℕ) (layer out out' wit' : List ℕ) : Type 0 where
   pub kept : out' ≡ out
 
 -- what `invert` leaves
-abbrev pub Outcome : ℕ → ℕ → List ℕ → List ℕ → List ℕ → List ℕ → List ℕ → Inversion → Type 0
-Outcome w n layer out out' wit wit' Done = Inverted w n layer out' wit wit'
-Outcome w n layer out out' wit wit' Collapses = Refused w n layer out out' wit'
+abbrev pub Outcome : ℕ → ℕ → List ℕ → List ℕ → List ℕ → List ℕ → List ℕ → Result Unit Singular → Type 0
+Outcome w n layer out out' wit wit' (Ok u) = Inverted w n layer out' wit wit'
+Outcome w n layer out out' wit wit' (Err e) = Refused w n layer out out' wit'

@@ -45,6 +45,11 @@ abbrev pub words_of : ℕ → ℕ → List ℕ
 words_of zero x = []
 words_of (suc w) x = x % 2 ^ 64 ∷ words_of w (x / 2 ^ 64)
 
+-- the words of each of the n rows of w words that words begin with
+abbrev pub row_words : ℕ → ℕ → List ℕ → List (List ℕ)
+row_words w zero ws = []
+row_words w (suc n) ws = take w ws ∷ row_words w n (drop w ws)
+
 -- the n rows of w words each that words begin with
 abbrev pub rows : ℕ → ℕ → List ℕ → List ℕ
 rows w zero ws = []

@@ -1,18 +1,27 @@
 // Inverting a layer. The layer L and the identity stand side by side as rows [L | 1], so that one row operation serves both; where L has become
 // the identity, its inverse stands beside it, and where a column has no pivot, that column says which vector L sends to zero.
-ghost use Rattle.std.specs.Prelude.{◌≡◌, ℕ, ◌+◌, ◌*◌, ◌/◌, ◌^◌, ◌<◌, ◌≤◌, length, MatchOption, bit_xor};
+ghost use Rattle.std.specs.Prelude.{◌≡◌, ℕ, ◌+◌, ◌*◌, ◌/◌, ◌^◌, ◌<◌, ◌≤◌, length, MatchOption, Some, bit_xor, codes};
 ghost use Rattle.bits.specs.Gf2.{dot, mul, rows, value};
 ghost use Rattle.bits.specs.Gauss.{Carried, Missing, Outcome, Solved, row_at};
 
-use crate::matrix::{clear_rows, product};
+use crate::matrix::{Matrix, clear_rows, product};
 use crate::words::{add, bit, fitting};
+use std::error::Error;
+use std::fmt;
 
-// Whether a layer has an inverse.
-#[derive(Drop)]
-pub enum Inversion {
-    Done,
-    Collapses,
+// The layer collapses: it has no inverse.
+#[derive(Clone, Copy, PartialEq, Eq, Debug)]
+pub struct Singular;
+
+impl fmt::Display for Singular {
+    ghost output = { λ _. Some (codes "the layer has no inverse") };
+
+    fn fmt<W: fmt::Write>(&self, f: &mut fmt::Formatter<W>) -> fmt::Result {
+        write!(f, "the layer has no inverse")
+    }
 }
+
+impl Error for Singular {}
 
 // Adds `on` times the vector `b` to `a`, for `on` 0 or 1.
 fn add_times(a: &mut [u64], b: &[u64], on: u64)
@@ -54,31 +63,24 @@ fn augment_row(from: &[u64], k: usize, to: &mut [u64])
     unit(&mut to[w..], k);
 }
 
-// Writes the `n` rows of the layer, `w` words each, with the identity beside them.
-fn augment(layer: &[u64], n: usize, w: usize, work: &mut [u64])
-    requires size { length layer.now ≡ n * w }
-    requires room { length work.old ≡ n * (2 * w) }
-    requires fits { n ≤ 64 * w }
-    ensures { (k : ℕ) → k < n → row_at (2 * w) work.new k ≡ row_at w layer.now k + 2 ^ (64 * w) * 2 ^ k }
+// Writes the rows of the layer with the identity beside them.
+fn augment(layer: Matrix<'_>, work: &mut [u64])
+    requires room { length work.old ≡ layer.height * (2 * layer.width) }
+    requires fits { layer.height ≤ 64 * layer.width }
+    ensures { (k : ℕ) → k < layer.entry.height → row_at (2 * layer.entry.width) work.new k ≡ row_at layer.entry.width layer.entry.words.now k + 2 ^ (64 * layer.entry.width) * 2 ^ k }
 {
-    for i in 0..n {
-        let start = i * (2 * w);
-        augment_row(&layer[i * w..i * w + w], i, &mut work[start..start + 2 * w]);
+    for (i, row) in layer.rows().enumerate() {
+        let width = 2 * row.len();
+        let start = i * width;
+        augment_row(row, i, &mut work[start..start + width]);
     }
 }
 
 // The first row from `c` on that has bit `c`.
-fn find_row(work: &[u64], n: usize, width: usize, c: usize) -> Option<usize>
-    requires { length work.now ≡ n * width }
-    ensures { MatchOption result (Missing n c (row_at width work.now)) (λ k. (c ≤ k) × (k < n) × (dot (2 ^ c) (row_at width work.now k) ≡ 1)) }
+fn find_row(work: Matrix<'_>, c: usize) -> Option<usize>
+    ensures { MatchOption result (Missing work.entry.height c (row_at work.entry.width work.entry.words.now)) (λ k. (c ≤ k) × (k < work.entry.height) × (dot (2 ^ c) (row_at work.entry.width work.entry.words.now k) ≡ 1)) }
 {
-    for k in c..n {
-        let start = k * width;
-        if bit(&work[start..start + width], c) == 1 {
-            return Some(k);
-        }
-    }
-    None
+    (c..work.height).find(|k| bit(work.row(*k), c) == 1)
 }
 
 // Makes column `c` the identity's, by row `r`, which has bit `c`; `row` is room for a row.
@@ -107,27 +109,22 @@ fn eliminate(work: &mut [u64], n: usize, row: &mut [u64]) -> Option<usize>
 {
     let width = row.len();
     for c in 0..n {
-        match find_row(work, n, width, c) {
-            None => {
-                return Some(c);
-            }
-            Some(r) => {
-                reduce(work, n, c, r, row);
-            }
-        }
+        let Some(r) = find_row(Matrix::new(work, width, n), c) else {
+            return Some(c);
+        };
+        reduce(work, n, c, r, row);
     }
     None
 }
 
-// Copies out the second halves of the `n` rows of `work`.
-fn write_out(work: &[u64], n: usize, w: usize, out: &mut [u64])
-    requires size { length work.now ≡ n * (2 * w) }
-    requires room { length out.old ≡ n * w }
-    ensures { (k : ℕ) → k < n → row_at w out.new k ≡ row_at (2 * w) work.now k / 2 ^ (64 * w) }
+// Copies out the second halves of the rows of `work`, of `w` words each.
+fn write_out(work: Matrix<'_>, w: usize, out: &mut [u64])
+    requires halves { work.width ≡ 2 * w }
+    requires room { length out.old ≡ work.height * w }
+    ensures { (k : ℕ) → k < work.entry.height → row_at w out.new k ≡ row_at (2 * w) work.entry.words.now k / 2 ^ (64 * w) }
 {
-    for i in 0..n {
-        let from = i * (2 * w) + w;
-        out[i * w..i * w + w].copy_from_slice(&work[from..from + w]);
+    for (i, row) in work.rows().enumerate() {
+        out[i * w..i * w + w].copy_from_slice(&row[w..]);
     }
 }
 
@@ -139,58 +136,61 @@ fn column_above(work: &[u64], c: usize, row: &mut [u64], out: &mut [u64])
     ensures { value out.new ≡ mul (rows (length row.old) c work.now) (2 ^ c) + 2 ^ c }
 {
     unit(row, c);
-    product(work, 0, c, row, out);
+    product(Matrix::new(work, row.len(), c), row, out);
     put_bit(out, c);
 }
 
 // What `invert` does, with room for the layer twice and for a row twice.
 fn invert_in(
-    layer: &[u64],
-    n: usize,
+    layer: Matrix<'_>,
     work: &mut [u64],
     row: &mut [u64],
     inverse: &mut [u64],
     witness: &mut [u64],
-) -> Inversion
-    requires size { length layer.now ≡ n * length witness.old }
-    requires work { length work.old ≡ n * (2 * length witness.old) }
-    requires row { length row.old ≡ 2 * length witness.old }
-    requires room { length inverse.old ≡ n * length witness.old }
-    requires fits { n ≤ 64 * length witness.old }
-    ensures { Outcome (length witness.old) n layer.now inverse.old inverse.new witness.old witness.new result }
+) -> Result<(), Singular>
+    requires size { length layer.words.now ≡ layer.height * layer.width }
+    requires wide { length witness.old ≡ layer.width }
+    requires work { length work.old ≡ layer.height * (2 * layer.width) }
+    requires row { length row.old ≡ 2 * layer.width }
+    requires room { length inverse.old ≡ layer.height * layer.width }
+    requires fits { layer.height ≤ 64 * layer.width }
+    ensures { Outcome layer.entry.width layer.entry.height layer.entry.words.now inverse.old inverse.new witness.old witness.new result }
 {
-    let w = witness.len();
-    augment(layer, n, w, work);
-    match eliminate(work, n, row) {
+    augment(layer, work);
+    match eliminate(work, layer.height, row) {
         None => {
-            write_out(work, n, w, inverse);
+            write_out(
+                Matrix::new(work, row.len(), layer.height),
+                layer.width,
+                inverse,
+            );
             fitting(inverse);
-            Inversion::Done
+            Ok(())
         }
         Some(c) => {
             column_above(work, c, row, witness);
-            Inversion::Collapses
+            Err(Singular)
         }
     }
 }
 
-// Writes the inverse of the layer of `n` rows to `inverse`, and leaves `witness`. Where the layer collapses, leaves `inverse`, and writes a
+// Writes the inverse of the layer to `inverse`, and leaves `witness`. Where the layer collapses, leaves `inverse`, and writes a
 // vector other than zero that the layer sends to zero to `witness`, which has as many words as a row.
-pub fn invert(layer: &[u64], n: usize, inverse: &mut [u64], witness: &mut [u64]) -> Inversion
-    requires size { length layer.now ≡ n * length witness.old }
-    requires room { length inverse.old ≡ n * length witness.old }
-    requires fits { n ≤ 64 * length witness.old }
-    requires many { n ≤ 256 }
-    requires wide { length witness.old ≤ 4 }
-    ensures { Outcome (length witness.old) n layer.now inverse.old inverse.new witness.old witness.new result }
+pub fn invert(layer: Matrix<'_>, inverse: &mut [u64], witness: &mut [u64]) -> Result<(), Singular>
+    requires size { length layer.words.now ≡ layer.height * layer.width }
+    requires witness { length witness.old ≡ layer.width }
+    requires room { length inverse.old ≡ layer.height * layer.width }
+    requires fits { layer.height ≤ 64 * layer.width }
+    requires many { layer.height ≤ 256 }
+    requires wide { layer.width ≤ 4 }
+    ensures { Outcome layer.entry.width layer.entry.height layer.entry.words.now inverse.old inverse.new witness.old witness.new result }
 {
     let mut work = [0u64; 2048];
     let mut row = [0u64; 8];
-    let width = 2 * witness.len();
+    let width = 2 * layer.width;
     invert_in(
         layer,
-        n,
-        &mut work[..n * width],
+        &mut work[..layer.height * width],
         &mut row[..width],
         inverse,
         witness,

@@ -1,22 +1,91 @@
-// Matrices in memory, a row after a row, each of as many words as a vector. For the crates above: sizes are the caller's duty.
-ghost use Rattle.std.specs.Prelude.{◌≡◌, ◌+◌, ◌*◌, ◌^◌, ◌<◌, ◌≤◌, true, map, length, drop};
-ghost use Rattle.bits.specs.Gf2.{Independent, mul, rows, value};
+// Matrices in memory, a row after a row, each of as many words as the others. For the crates above: sizes are the caller's duty.
+ghost use Rattle.std.specs.Prelude.{◌≡◌, ◌+◌, ◌*◌, ◌^◌, ◌<◌, ◌≤◌, true, map, length, take, drop};
+ghost use Rattle.std.specs.Iterator.{YieldsFirstRef, item_count};
+ghost use Rattle.bits.specs.Gf2.{Independent, Words, mul, row_words, rows, value};
 ghost use Rattle.bits.specs.Gauss.{clear};
 
 use crate::words::{add, bit, lowest_one, parity};
 
-// The product of the matrix of `count` rows that stand at `at` with the vector `v`.
-pub fn product(words: &[u64], at: usize, count: usize, v: &[u64], out: &mut [u64])
-    requires fits { at + count * length v.now ≤ length words.now }
-    requires room { count ≤ 64 * length out.old }
-    ensures { value out.new ≡ mul (rows (length v.now) count (drop at words.now)) (value v.now) }
+// A matrix that is lent: its rows are the words that they begin with.
+#[derive(Clone, Copy)]
+pub struct Matrix<'a> {
+    pub words: &'a [u64],
+    pub width: usize,
+    pub height: usize,
+    ghost fits: { height * width ≤ length words.now },
+    ghost typed: { Words words.now },
+}
+
+// The rows of a matrix that are still to come.
+#[derive(Drop)]
+pub struct Rows<'a> {
+    words: &'a [u64],
+    width: usize,
+    left: usize,
+    ghost fits: { left * width ≤ length words.now },
+}
+
+impl<'a> Matrix<'a> {
+    // The matrix of `height` rows of `width` words.
+    pub fn new(words: &'a [u64], width: usize, height: usize) -> Matrix<'a>
+        requires { height * width ≤ length words.now }
+        ensures words { result.words.now ≡ words.now }
+        ensures shape { (result.width ≡ width) × (result.height ≡ height) }
+    {
+        Matrix {
+            words,
+            width,
+            height,
+        }
+    }
+
+    // Row `i`.
+    pub fn row(self, i: usize) -> &'a [u64]
+        requires { i < self.height }
+        ensures { result.now ≡ take self.entry.width (drop (i * self.entry.width) self.entry.words.now) }
+    {
+        let start = i * self.width;
+        &self.words[start..start + self.width]
+    }
+
+    // The rows, from the first.
+    pub fn rows(self) -> Rows<'a>
+        ensures { row_words result.width result.left result.words.now ≡ row_words self.entry.width self.entry.height self.entry.words.now }
+    {
+        Rows {
+            words: self.words,
+            width: self.width,
+            left: self.height,
+        }
+    }
+}
+
+impl<'a> Iterator for Rows<'a> {
+    type Item = &'a [u64];
+
+    ghost next_gives = { YieldsFirstRef (λ s. row_words s.width s.left s.words.now) };
+
+    ghost remaining = { item_count (λ s. row_words s.width s.left s.words.now) };
+
+    fn next(&mut self) -> Option<&'a [u64]> {
+        if self.left == 0 {
+            return None;
+        }
+        let (row, rest) = self.words.split_at(self.width);
+        self.words = rest;
+        self.left -= 1;
+        Some(row)
+    }
+}
+
+// The product of a matrix with the vector `v`.
+pub fn product(m: Matrix<'_>, v: &[u64], out: &mut [u64])
+    requires { m.height ≤ 64 * length out.old }
+    ensures { value out.new ≡ mul (rows m.entry.width m.entry.height m.entry.words.now) (value v.now) }
 {
-    let w = v.len();
     out.fill(0);
-    for i in 0..count {
-        let start = at + i * w;
-        let odd = parity(&words[start..start + w], v);
-        out[i / 64] |= odd << (i % 64);
+    for (i, row) in m.rows().enumerate() {
+        out[i / 64] |= parity(row, v) << (i % 64);
     }
 }
 
@@ -35,6 +104,7 @@ pub(crate) fn clear_rows(row: &[u64], rest: &mut [u64], count: usize, j: usize)
     requires size { length rest.old ≡ count * length row.now }
     ensures { rows (length row.now) count rest.new ≡ map (clear (2 ^ j) (value row.now)) (rows (length row.now) count rest.old) }
 {
+    // By an index: what a loop over `chunks_exact_mut` writes is lost to the proof, and it refuses rows of no words.
     let w = row.len();
     for i in 0..count {
         let start = i * w;
@@ -44,40 +114,33 @@ pub(crate) fn clear_rows(row: &[u64], rest: &mut [u64], count: usize, j: usize)
 
 // What `independent` does, in a matrix that it may change. Each row is taken out of those below it at its lowest one: a row that is zero
 // at its turn is a sum of rows above it.
-fn independent_in(m: &mut [u64], count: usize, row: &mut [u64]) -> bool
-    requires size { length m.old ≡ count * length row.old }
-    requires small { 64 * length row.old ≤ 2 ^ 64 }
-    ensures sound { result ≡ true → Independent (rows (length row.old) count m.old) }
-    ensures complete { Independent (rows (length row.old) count m.old) → result ≡ true }
+fn independent_in(m: &mut [u64], count: usize, w: usize) -> bool
+    requires size { length m.old ≡ count * w }
+    requires small { 64 * w ≤ 2 ^ 64 }
+    ensures sound { result ≡ true → Independent (rows w count m.old) }
+    ensures complete { Independent (rows w count m.old) → result ≡ true }
 {
-    let w = row.len();
+    let mut rest = m;
     for i in 0..count {
-        let start = i * w;
-        let end = start + w;
-        row.copy_from_slice(&m[start..end]);
-        match lowest_one(row) {
-            None => {
-                return false;
-            }
-            Some(j) => {
-                clear_rows(row, &mut m[end..], count - 1 - i, j);
-            }
-        }
+        let (row, below) = rest.split_at_mut(w);
+        let Some(j) = lowest_one(row) else {
+            return false;
+        };
+        clear_rows(row, below, count - 1 - i, j);
+        rest = below;
     }
     true
 }
 
-// Whether the `count` rows of `w` words in `m` are independent. `m` is read only: the work is done in a copy.
-pub fn independent(m: &[u64], count: usize, w: usize) -> bool
-    requires size { length m.now ≡ count * w }
-    requires many { count ≤ 256 }
-    requires wide { w ≤ 4 }
-    ensures sound { result ≡ true → Independent (rows w count m.now) }
-    ensures complete { Independent (rows w count m.now) → result ≡ true }
+// Whether the rows of a matrix are independent. It is read only: the work is done in a copy.
+pub fn independent(m: Matrix<'_>) -> bool
+    requires many { m.height ≤ 256 }
+    requires wide { m.width ≤ 4 }
+    ensures sound { result ≡ true → Independent (rows m.entry.width m.entry.height m.entry.words.now) }
+    ensures complete { Independent (rows m.entry.width m.entry.height m.entry.words.now) → result ≡ true }
 {
     let mut copy = [0u64; 1024];
-    let mut row = [0u64; 4];
-    let used = m.len();
-    copy[..used].copy_from_slice(m);
-    independent_in(&mut copy[..used], count, &mut row[..w])
+    let used = m.height * m.width;
+    copy[..used].copy_from_slice(&m.words[..used]);
+    independent_in(&mut copy[..used], m.height, m.width)
 }

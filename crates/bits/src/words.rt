@@ -15,12 +15,11 @@ pub fn width(bits: usize) -> usize
 pub fn parity(row: &[u64], v: &[u64]) -> u64
     ensures { result ≡ dot (value row.now) (value v.now) }
 {
-    let shared = row.len().min(v.len());
-    let mut acc: u64 = 0;
-    for i in 0..shared {
-        acc ^= row[i] & v[i];
-    }
-    u64::from(acc.count_ones() % 2)
+    let shared = row
+        .iter()
+        .zip(v)
+        .fold(0, |acc: u64, (x, y)| acc ^ (*x & *y));
+    u64::from(shared.count_ones() % 2)
 }
 
 // Does nothing but say that each word is below 2^64: a proof knows that of a shared slice, and not of one that a loop writes to.
@@ -35,11 +34,8 @@ pub fn bit(v: &[u64], j: usize) -> u64
     ensures { result ≡ dot (2 ^ j) (value v.now) }
 {
     fitting(v);
-    let at = j / 64;
-    if at >= v.len() {
-        return 0;
-    }
-    (v[at] >> (j % 64)) % 2
+    let word = v.get(j / 64).copied().unwrap_or(0);
+    (word >> (j % 64)) % 2
 }
 
 // The place of the lowest one of `row`, or nothing where it has none. The bound is there because a place is a `usize`.
@@ -48,13 +44,8 @@ pub fn lowest_one(row: &[u64]) -> Option<usize>
     ensures value { result ≡ lowest_one_of (value row.now) }
     ensures lowest { MatchOption result (value row.now ≡ 0) (λ j. (j < 64 * length row.now) × Lowest (value row.now) j) }
 {
-    for k in 0..row.len() {
-        let x = row[k];
-        if x != 0 {
-            return Some(64 * k + x.trailing_zeros() as usize);
-        }
-    }
-    None
+    let k = row.iter().position(|x| *x != 0)?;
+    Some(64 * k + row[k].trailing_zeros() as usize)
 }
 
 // Adds the vector `b` to `a`.
@@ -63,7 +54,7 @@ pub fn add(a: &mut [u64], b: &[u64])
     ensures { value a.new ≡ bit_xor (value a.old) (value b.now) }
 {
     fitting(a);
-    for i in 0..a.len() {
-        a[i] ^= b[i];
+    for (i, x) in a.iter_mut().enumerate() {
+        *x ^= b[i];
     }
 }

@@ -1,9 +1,8 @@
-use Rattle.std.proofs.Common.{arith}
-use Rattle.bits.proofs.Vectors.{bit_past, bit_read}
+use Rattle.std.proofs.Common.{rules, ◌≡◌, ◌/◌, ◌%◌, ◌^◌, get_or, ap, ◌∙◌}
+use Rattle.bits.proofs.Vectors.{bit_read}
 use Rattle.bits.proofs.words.bit.Goals as goal
 
-pub returns-then-at-v : goal.returns-then-at-v
-returns-then-at-v c = bit_past c.args.v.now c.args.j c.fitting.ensures (omega arith)
-
 pub returns : goal.returns
-returns c = bit_read c.args.v.now c.args.j c.fitting.ensures
+returns c =
+    let word : c.unwrap_or-word.result ≡ get_or c.args.v.now (c.args.j / 64) 0 = search rules in
+    ap (λ x. x / 2 ^ (c.args.j % 64) % 2) word ∙ bit_read c.args.v.now c.args.j c.fitting.ensures
