@@ -9,7 +9,7 @@ ghost use Rattle.cipher.specs.LowMC.{decrypt as deciphered, encrypt as enciphere
 use crate::params::Params;
 use crate::places::{Places, at_round, keys_from};
 use crate::state::{substitute, unsubstitute};
-use bits::matrix::product;
+use bits::matrix::{Matrix, product};
 use bits::words::add;
 
 // One round: substitution, layer, constant, round key. `spare` is changed.
@@ -34,9 +34,9 @@ fn forward(
     let w = state.len();
     let c = at.constant;
     substitute(state, m);
-    product(words, at.layer, n, state, spare);
+    product(Matrix::new(&words[at.layer..], w, n), state, spare);
     add(spare, &words[c..c + w]);
-    product(words, at.key, n, key, state);
+    product(Matrix::new(&words[at.key..], key.len(), n), key, state);
     add(state, spare);
 }
 
@@ -61,10 +61,10 @@ fn backward(
 {
     let w = state.len();
     let c = at.constant;
-    product(words, at.key, n, key, spare);
+    product(Matrix::new(&words[at.key..], key.len(), n), key, spare);
     add(state, spare);
     add(state, &words[c..c + w]);
-    product(words, at.inverse, n, state, spare);
+    product(Matrix::new(&words[at.inverse..], w, n), state, spare);
     state.copy_from_slice(spare);
     unsubstitute(state, m);
 }
@@ -86,7 +86,7 @@ pub(crate) fn encrypt_state(
 {
     let n = p.n as usize;
     let m = p.m as usize;
-    product(words, keys_from(p), n, key, spare);
+    product(Matrix::new(&words[keys_from(p)..], key.len(), n), key, spare);
     add(state, spare);
     for i in 0..p.r as usize {
         forward(words, at_round(p, i), n, m, key, state, spare);
@@ -115,6 +115,6 @@ pub(crate) fn decrypt_state(
     for i in 0..r {
         backward(words, at_round(p, r - 1 - i), n, m, key, state, spare);
     }
-    product(words, keys_from(p), n, key, spare);
+    product(Matrix::new(&words[keys_from(p)..], key.len(), n), key, spare);
     add(state, spare);
 }

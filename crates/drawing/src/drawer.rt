@@ -9,8 +9,8 @@ ghost use Rattle.drawing.specs.Streams.{Sees, Stream};
 ghost use Rattle.drawing.specs.Drawing.{Draws, Keeping, Keys, Layers, Opens, SoundSet, Took, drawn_set, kept_key, kept_layer, matrix, over, ready, row, several};
 
 use crate::source::BitSource;
-use bits::elimination::{Inversion, invert};
-use bits::matrix::independent;
+use bits::elimination::invert;
+use bits::matrix::{Matrix, independent};
 use bits::refusal::{Fault, Layer, Refusal};
 use bits::words::width;
 use cipher::params::Params;
@@ -83,11 +83,8 @@ fn draw_layer<S: BitSource>(
     let mut at = taken;
     for _draw in 0..255usize {
         at = draw_matrix(source, at, n, n, layer)?;
-        match invert(layer, n, inverse, &mut witness[..w]) {
-            Inversion::Done => {
-                return Ok(at);
-            }
-            Inversion::Collapses => {}
+        if invert(Matrix::new(layer, w, n), inverse, &mut witness[..w]).is_ok() {
+            return Ok(at);
         }
     }
     Err(Fault::at(Refusal::NothingKept, Layer::Draw, at))
@@ -112,7 +109,7 @@ fn draw_key<S: BitSource>(
     let mut at = taken;
     for _draw in 0..255usize {
         at = draw_matrix(source, at, n, k, out)?;
-        if independent(out, n, v) {
+        if independent(Matrix::new(out, v, n)) {
             return Ok(at);
         }
     }
@@ -407,8 +404,8 @@ mod tests {
         for x in 0..8u64 {
             let mut image = [0u64; 1];
             let mut back = [0u64; 1];
-            product(&words, 0, 3, &[x], &mut image);
-            product(&words, 10, 3, &image, &mut back);
+            product(Matrix::new(&words, 1, 3), &[x], &mut image);
+            product(Matrix::new(&words[10..], 1, 3), &image, &mut back);
             assert_eq!(rt; back[0], x);
         }
         Ok(())

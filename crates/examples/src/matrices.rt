@@ -1,58 +1,40 @@
 // Products, rows and inverses in words.
-use bits::elimination::{Inversion, invert};
-use bits::matrix::{independent, product};
+use bits::elimination::{Singular, invert};
+use bits::matrix::{Matrix, independent, product};
 use bits::words::{lowest_one, parity};
 use std::test::Fail;
 
 #[test]
-fn inverts(rt: HostRuntime) -> Result<(), Fail> {
+fn inverts(rt: HostRuntime) {
     let mut inverse = [0; 3];
     let mut witness = [9];
-    match invert(&[2, 4, 1], 3, &mut inverse, &mut witness) {
-        Inversion::Done => {
-            assert_eq!(rt; inverse[0], 4);
-            assert_eq!(rt; inverse[1], 1);
-            assert_eq!(rt; inverse[2], 2);
-            assert_eq!(rt; witness[0], 9);
-            Ok(())
-        }
-        Inversion::Collapses => {
-            assert!(rt; false);
-            Ok(())
-        },
-    }
+    let layer = Matrix::new(&[2, 4, 1], 1, 3);
+    assert_eq!(rt; invert(layer, &mut inverse, &mut witness), Ok(()));
+    assert_eq!(rt; inverse, [4, 1, 2]);
+    assert_eq!(rt; witness, [9]);
 }
 
 #[test]
-fn names_a_witness(rt: HostRuntime) -> Result<(), Fail> {
+fn names_a_witness(rt: HostRuntime) {
     let mut inverse = [9; 3];
     let mut witness = [9];
-    match invert(&[1, 1, 4], 3, &mut inverse, &mut witness) {
-        Inversion::Done => {
-            assert!(rt; false);
-            Ok(())
-        },
-        Inversion::Collapses => {
-            assert_eq!(rt; inverse[0], 9);
-            assert_eq!(rt; inverse[1], 9);
-            assert_eq!(rt; inverse[2], 9);
-            assert_eq!(rt; witness[0], 2);
-            Ok(())
-        }
-    }
+    let layer = Matrix::new(&[1, 1, 4], 1, 3);
+    assert_eq!(rt; invert(layer, &mut inverse, &mut witness), Err(Singular));
+    assert_eq!(rt; inverse, [9, 9, 9]);
+    assert_eq!(rt; witness, [2]);
 }
 
 #[test]
 fn multiplies(rt: HostRuntime) {
     let mut out = [7];
-    product(&[9, 3, 6, 5], 1, 3, &[5], &mut out);
+    product(Matrix::new(&[9, 3, 6, 5][1..], 1, 3), &[5], &mut out);
     assert_eq!(rt; out[0], 3);
 }
 
 #[test]
 fn tells_rows_apart(rt: HostRuntime) {
-    assert!(rt; !independent(&[3, 0, 6, 0, 5, 0], 3, 2));
-    assert!(rt; independent(&[3, 0, 6, 1, 5, 0], 3, 2));
+    assert!(rt; !independent(Matrix::new(&[3, 0, 6, 0, 5, 0], 2, 3)));
+    assert!(rt; independent(Matrix::new(&[3, 0, 6, 1, 5, 0], 2, 3)));
 }
 
 #[test]

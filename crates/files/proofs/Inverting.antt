@@ -1,9 +1,8 @@
 -- Layers of a file as words, and their inverses.
-use Rattle.std.proofs.Common.{◌≡◌, ℕ, zero, suc, ◌+◌, ◌-◌, ◌*◌, ◌/◌, ◌%◌, ◌^◌, ◌<◌, ◌≤◌, List, [], ◌∷◌, ◌++◌, map, length, get_or, take, drop, replicate, sym, refl, ap, ◌∙◌, subst, ap₂, suc-mul, zero-add, zero-mul, arith, pow_pos, pow_mono}
+use Rattle.std.proofs.Common.{Result, Ok, Err, ◌≡◌, ℕ, zero, suc, ◌+◌, ◌-◌, ◌*◌, ◌/◌, ◌%◌, ◌^◌, ◌<◌, ◌≤◌, List, [], ◌∷◌, ◌++◌, map, length, get_or, take, drop, replicate, sym, refl, ap, ◌∙◌, subst, ap₂, suc-mul, zero-add, zero-mul, arith, pow_pos, pow_mono}
 use Rattle.std.proofs.lemmas.Nat.{pow-add}
 use Rattle.std.proofs.lemmas.List.{drop-drop, drop-replicate, map-append}
-use Rattle.bits.specs.declared.elimination.Inversion.{Inversion}
-use Rattle.bits.specs.declared.elimination.Inversion.TheVariants.{Done, Collapses}
+use Rattle.bits.specs.declared.elimination.Singular.{Singular}
 use Rattle.bits.specs.Gauss.{Outcome}
 use Rattle.bits.specs.Gf2.{Below, Inverse, Witness, flat, Words, inverse_of, rows, value, words_of}
 use Rattle.bits.proofs.Inverse.{not_both}
@@ -30,20 +29,20 @@ rows_below c (suc n) m bs f h = (omega (arith, row_below c bs f, pow_mono {i = 8
 
 -- ---- what the inversion of its words says of a layer
 
-pub inverting : (w n : ℕ) (L layer out out' vec vec' : List ℕ) (r : Inversion) → layer ≡ flat w L → length L ≡ n → Below (64 * w) L
+pub inverting : (w n : ℕ) (L layer out out' vec vec' : List ℕ) (r : Result Unit Singular) → layer ≡ flat w L → length L ≡ n → Below (64 * w) L
     → Outcome w n layer out out' vec vec' r → Inverting w L out out' vec vec' r
 inverting w n L layer out out' vec vec' r is size narrow o = go r o
   where
     back : rows w n layer ≡ L
     back = ap₂ (rows w) (sym size) is ∙ rows_flat w L narrow
 
-    go : (r : Inversion) → Outcome w n layer out out' vec vec' r → Inverting w L out out' vec vec' r
-    go Done o = (
+    go : (r : Result Unit Singular) → Outcome w n layer out out' vec vec' r → Inverting w L out out' vec vec' r
+    go (Ok u) o = (
       subst (λ (M : List ℕ). Inverse M (inverse_of M)) back (subst (Inverse (rows w n layer)) o.is o.inverse),
       o.written ∙ ap (λ (M : List ℕ). flat w (inverse_of M)) back,
       o.kept,
     )
-    go Collapses o = (subst (λ (M : List ℕ). Witness M (value vec')) back o.witness, o.kept)
+    go (Err e) o = (subst (λ (M : List ℕ). Witness M (value vec')) back o.witness, o.kept)
 
 -- ---- one layer more
 
@@ -83,10 +82,10 @@ words_front [] ys f i = omega arith
 words_front (x ∷ xs) ys f zero = f 0
 words_front (x ∷ xs) ys f (suc i) = words_front xs ys (λ k. f (suc k)) i
 
-pub tried : (w : ℕ) (L out out' vec part vec' : List ℕ) (r : Inversion) → length part ≡ w → w ≤ 4 → Words part → vec' ≡ part ++ drop w (replicate 4 0)
+pub tried : (w : ℕ) (L out out' vec part vec' : List ℕ) (r : Result Unit Singular) → length part ≡ w → w ≤ 4 → Words part → vec' ≡ part ++ drop w (replicate 4 0)
     → Inverting w L out out' vec part r → Tried L vec' r
-tried w L out out' vec part vec' Done size four f is i = i.0
-tried w L out out' vec part vec' Collapses size four f is i =
+tried w L out out' vec part vec' (Ok u) size four f is i = i.0
+tried w L out out' vec part vec' (Err e) size four f is i =
     let e : length part + (4 - w) ≡ 4 = omega arith in
     record {
       vector = value part;
@@ -116,6 +115,6 @@ matrix_at_is c n (suc count) (suc j) bs h =
     ∙ ap (byte_rows c n) (drop-drop (j * record_size c n + 3) (record_size c n) bs ∙ ap (λ (k : ℕ). drop k bs) e)
 
 -- what is written where a layer is known not to collapse
-pub inverted : (w : ℕ) (L out out' vec vec' : List ℕ) (r : Inversion) → Invertible L → Inverting w L out out' vec vec' r → out' ≡ flat w (inverse_of L)
-inverted w L out out' vec vec' Done inv i = i.1
-inverted w L out out' vec vec' Collapses inv i = absurd (not_both L (inverse_of L) inv (value vec', i.0))
+pub inverted : (w : ℕ) (L out out' vec vec' : List ℕ) (r : Result Unit Singular) → Invertible L → Inverting w L out out' vec vec' r → out' ≡ flat w (inverse_of L)
+inverted w L out out' vec vec' (Ok u) inv i = i.1
+inverted w L out out' vec vec' (Err e) inv i = absurd (not_both L (inverse_of L) inv (value vec', i.0))

@@ -1,7 +1,6 @@
 -- Inverting the layers of a file.
 use Rattle.std.specs.Prelude.{◌≡◌, ℕ, ◌+◌, ◌*◌, ◌<◌, List, [], ◌++◌, drop, Ok, Err, Result, slice_index_or}
-use Rattle.bits.specs.declared.elimination.Inversion.{Inversion}
-use Rattle.bits.specs.declared.elimination.Inversion.TheVariants.{Done, Collapses}
+use Rattle.bits.specs.declared.elimination.Singular.{Singular}
 use Rattle.bits.specs.declared.refusal.Refusal.TheVariants.{LayerCollapses}
 use Rattle.bits.specs.declared.refusal.Layer.TheVariants.{Set as SetLayer}
 use Rattle.bits.specs.declared.refusal.Fault.{Fault}
@@ -16,9 +15,9 @@ abbrev pub matrix_at : ℕ → ℕ → ℕ → List ℕ → List ℕ
 matrix_at c count j bs = byte_rows c count (drop (j * record_size c count + 3) bs)
 
 -- the inverse of L is written, w words a row; or a vector that L sends to zero is
-abbrev pub Inverting : ℕ → List ℕ → List ℕ → List ℕ → List ℕ → List ℕ → Inversion → Type 0
-Inverting w L out out' vec vec' Done = Invertible L × (out' ≡ flat w (inverse_of L)) × (vec' ≡ vec)
-Inverting w L out out' vec vec' Collapses = Witness L (value vec') × (out' ≡ out)
+abbrev pub Inverting : ℕ → List ℕ → List ℕ → List ℕ → List ℕ → List ℕ → Result Unit Singular → Type 0
+Inverting w L out out' vec vec' (Ok u) = Invertible L × (out' ≡ flat w (inverse_of L)) × (vec' ≡ vec)
+Inverting w L out out' vec vec' (Err e) = Witness L (value vec') × (out' ≡ out)
 
 -- four words that hold a witness, with zeros past its own
 pub record SmallWitness (L vec : List ℕ) : Type 0 where
@@ -26,9 +25,9 @@ pub record SmallWitness (L vec : List ℕ) : Type 0 where
   pub collapses : Witness L vector
   pub is : vec ≡ words_of 4 vector
 
-abbrev pub Tried : List ℕ → List ℕ → Inversion → Type 0
-Tried L vec' Done = Invertible L
-Tried L vec' Collapses = SmallWitness L vec'
+abbrev pub Tried : List ℕ → List ℕ → Result Unit Singular → Type 0
+Tried L vec' (Ok u) = Invertible L
+Tried L vec' (Err e) = SmallWitness L vec'
 
 -- no matrix collapses, and the witness stays; or some matrix does, and its witness is written
 pub record Found (Ms : List (List ℕ)) (count : ℕ) (wit wit' : List ℕ) (fault : Fault) : Type 0 where

@@ -8,7 +8,8 @@ ghost use Rattle.cipher.specs.Laws.{Invertible};
 
 use crate::reader::byte_width;
 use crate::rows::load_rows;
-use bits::elimination::{Inversion, invert};
+use bits::elimination::{Singular, invert};
+use bits::matrix::Matrix;
 use bits::refusal::{Fault, Layer, Refusal};
 use bits::words::width;
 
@@ -20,7 +21,7 @@ fn invert_in(
     layer: &mut [u64],
     inverse: &mut [u64],
     vector: &mut [u64],
-) -> Inversion
+) -> Result<(), Singular>
     requires bytes { j * record_size (byte_width_of n) n + record_size (byte_width_of n) n ≤ length bytes.now }
     requires most { n ≤ 256 }
     requires width { length vector.old ≡ width_of n }
@@ -32,7 +33,7 @@ fn invert_in(
     let n = n as usize;
     let from = j * (3 + n * size) + 3;
     load_rows(&bytes[from..from + n * size], size, n, vector.len(), layer);
-    invert(layer, n, inverse, vector)
+    invert(Matrix::new(layer, vector.len(), n), inverse, vector)
 }
 
 // Inverts the layer of `n` bits in record `j` of those that stand one after another in `bytes`.
@@ -42,7 +43,7 @@ fn invert_record(
     n: u16,
     inverse: &mut [u64],
     vector: &mut [u64],
-) -> Inversion
+) -> Result<(), Singular>
     requires bytes { j * record_size (byte_width_of n) n + record_size (byte_width_of n) n ≤ length bytes.now }
     requires most { n ≤ 256 }
     requires width { length vector.old ≡ width_of n }
@@ -55,7 +56,7 @@ fn invert_record(
 }
 
 // Whether the layer in record `j` can be inverted; where it cannot, `vector` becomes a witness.
-fn check_layer(bytes: &[u8], j: usize, n: u16, vector: &mut [u64]) -> Inversion
+fn check_layer(bytes: &[u8], j: usize, n: u16, vector: &mut [u64]) -> Result<(), Singular>
     requires bytes { j * record_size (byte_width_of n) n + record_size (byte_width_of n) n ≤ length bytes.now }
     requires most { n ≤ 256 }
     requires zeros { vector.old ≡ replicate 4 0 }
@@ -86,12 +87,9 @@ pub(crate) fn check_layers(
 {
     for j in 0..count as usize {
         let mut vector = [0u64; 4];
-        match check_layer(bytes, j, n, &mut vector) {
-            Inversion::Done => {}
-            Inversion::Collapses => {
-                witness[..4].copy_from_slice(&vector);
-                return Err(Fault::at(Refusal::LayerCollapses, Layer::Set, j + 1));
-            }
+        if check_layer(bytes, j, n, &mut vector).is_err() {
+            witness[..4].copy_from_slice(&vector);
+            return Err(Fault::at(Refusal::LayerCollapses, Layer::Set, j + 1));
         }
     }
     Ok(())

@@ -1,6 +1,6 @@
-use Rattle.std.proofs.Common.{◌≡◌, ◌-◌, length, ap, ◌∙◌, arith}
+use Rattle.std.proofs.Common.{rules, drop, ◌≡◌, ◌-◌, length, ap, ◌∙◌, arith}
 use lib.Bits.{bit_xor}
-use Rattle.bits.specs.Gf2.{value}
+use Rattle.bits.specs.Gf2.{mul, rows, value}
 use Rattle.cipher.specs.Parameters.{block_words_of}
 use Rattle.cipher.proofs.Bounds.{roomy}
 use Rattle.cipher.proofs.Passes.{decrypted, first_at, unround_at, unrounds_more}
@@ -30,5 +30,6 @@ returns c =
     let p = c.args.p in
     let ws = c.args.words.now in
     let key = value c.args.key.now in
+    let whitening : value c.product.new.out ≡ mul (rows (length c.args.key.now) p.n (drop c.keys_from.result ws)) key = search rules in
     decrypted p ws c.loop-i.i key (value c.loop-i.state) (value c.add.new.a) (value c.args.state.now) (omega arith) c.loop-i.invariant
-    (c.add.ensures ∙ ap (bit_xor (value c.loop-i.state)) (first_at p ws (length c.args.key.now) c.keys_from.result key (value c.product.new.out) c.requires.keyed c.keys_from.ensures c.product.ensures))
+    (c.add.ensures ∙ ap (bit_xor (value c.loop-i.state)) (first_at p ws (length c.args.key.now) c.keys_from.result key (value c.product.new.out) c.requires.keyed c.keys_from.ensures whitening))

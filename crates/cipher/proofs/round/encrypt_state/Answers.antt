@@ -1,6 +1,6 @@
-use Rattle.std.proofs.Common.{◌≡◌, length, ap, ◌∙◌, arith}
+use Rattle.std.proofs.Common.{rules, drop, ◌≡◌, length, ap, ◌∙◌, arith}
 use lib.Bits.{bit_xor}
-use Rattle.bits.specs.Gf2.{value}
+use Rattle.bits.specs.Gf2.{mul, rows, value}
 use Rattle.cipher.specs.LowMC.{rounds}
 use Rattle.cipher.specs.Parameters.{block_words_of}
 use Rattle.cipher.proofs.Bounds.{roomy}
@@ -30,7 +30,8 @@ returns c =
     let p = c.args.p in
     let ws = c.args.words.now in
     let key = value c.args.key.now in
+    let whitening : value c.product.new.out ≡ mul (rows (length c.args.key.now) p.n (drop c.keys_from.result ws)) key = search rules in
     rounds_done p ws c.loop-i.i p.m key (value c.loop-i.state) _ (omega arith) c.loop-i.invariant
     ∙ ap (λ x. rounds p.m key (layers_left p ws 0) (constants_left p ws 0) (keys_left p ws 0) x)
-    (c.add.ensures ∙ ap (bit_xor (value c.args.state.now)) (first_at p ws (length c.args.key.now) c.keys_from.result key (value c.product.new.out) c.requires.keyed c.keys_from.ensures c.product.ensures))
+    (c.add.ensures ∙ ap (bit_xor (value c.args.state.now)) (first_at p ws (length c.args.key.now) c.keys_from.result key (value c.product.new.out) c.requires.keyed c.keys_from.ensures whitening))
     ∙ encrypted p ws key (value c.args.state.now)
