@@ -7,4 +7,4 @@ pub mod Lowest
 pub mod Gauss
 pub mod Memory
 pub mod Ends
-pub mod Rows
+pub mod RowLoops

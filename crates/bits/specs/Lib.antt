@@ -1,3 +1,4 @@
 pub mod Gf2
 pub mod Gauss
 pub mod Refusals
+pub mod Matrices

@@ -4,4 +4,5 @@ pub mod elimination;
 pub mod laws;
 pub mod matrix;
 pub mod refusal;
+pub mod rows;
 pub mod words;

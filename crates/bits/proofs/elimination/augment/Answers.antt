@@ -2,7 +2,7 @@ use borrow.Rule.Slice.PartMut.{put_mid}
 use Rattle.std.proofs.Common.{ℕ, ◌<◌, ◌++◌, ◌∷◌, [], sym, ◌≡◌, ◌+◌, ◌-◌, ◌*◌, ◌^◌, length, take, drop, ◌∙◌, ap, ap₂, arith, length-drop, length-take, rules, subst}
 use Rattle.std.proofs.lemmas.List.{length_push}
 use Rattle.bits.specs.Gf2.{value}
-use Rattle.bits.proofs.Rows.{length_row_words, numbered_end, numbered_turn, row_length}
+use Rattle.bits.proofs.RowLoops.{length_row_words, numbered_end, numbered_turn, row_length}
 use Rattle.bits.proofs.Vectors.{row_ends}
 use Rattle.bits.specs.Gauss.{row_at}
 use Rattle.bits.proofs.Memory.{put_more}

@@ -1,7 +1,7 @@
 use Rattle.std.proofs.Common.{◌≡◌, length, refl, ◌∙◌, ap, arith, rules, subst}
 use Rattle.std.proofs.lemmas.List.{length_push}
 use Rattle.bits.specs.Gf2.{value, dot, mul, rows}
-use Rattle.bits.proofs.Rows.{length_row_words, numbered_end, numbered_turn}
+use Rattle.bits.proofs.RowLoops.{length_row_words, numbered_end, numbered_turn}
 use Rattle.bits.proofs.Vectors.{product_more, value_cleared}
 use Rattle.bits.proofs.matrix.product.Goals as goal
 

@@ -9,7 +9,7 @@ use Rattle.std.proofs.lemmas.Iterator.{YieldsList}
 use Rattle.std.proofs.lemmas.Iterator.Consumers.{YieldsList-end, YieldsList-from_enumerate, YieldsList-from_first, YieldsList-turn}
 use Rattle.std.proofs.lemmas.List.{drop-drop}
 use Rattle.bits.specs.Gf2.{row_words, rows, value}
-use Rattle.bits.specs.declared.matrix.Rows.{Rows}
+use Rattle.bits.specs.declared.rows.Rows.{Rows}
 use Rattle.bits.proofs.Vectors.{row_ends}
 
 pub length_row_words : (w n : ℕ) (ws : List ℕ) → length (row_words w n ws) ≡ n
