@@ -10,7 +10,7 @@ use Rattle.cipher.specs.Parameters.{block_words_of, gates_of, key_words_of}
 use Rattle.cipher.specs.Blocks.{Held}
 use Rattle.cipher.specs.Sets.{Set}
 use Rattle.cipher.proofs.Calls.{then_is}
-use Rattle.cipher.proofs.Opened.{no_stray}
+use Rattle.cipher.proofs.SoundSets.{no_stray}
 use Rattle.cipher.proofs.Strays.{rows_none}
 use Rattle.engines.specs.declared.engine.Account.{Account}
 use Rattle.engines.specs.Accounts.{Spent, left}

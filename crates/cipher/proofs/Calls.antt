@@ -1,5 +1,5 @@
 -- A call on one block: what its checks tell, and that the other direction leads back.
-use Rattle.std.proofs.Common.{◌≡◌, ℕ, ◌*◌, ◌^◌, ◌<◌, ◌≤◌, Bool, true, false, List, [], ◌∷◌, length, Some, None, Ok, Err, Option, Result, sym, refl, ap, ◌∙◌, subst, arith, pow_mono}
+use Rattle.std.proofs.Common.{◌≡◌, ℕ, ◌*◌, ◌^◌, ◌<◌, ◌≤◌, Bool, true, false, List, [], ◌∷◌, length, Some, None, Ok, Err, Result, sym, refl, ap, ◌∙◌, subst, arith, pow_mono}
 use Rattle.std.proofs.lemmas.List.{take_all}
 use Rattle.std.proofs.lemmas.Bool.{eqb-true, ltb-false, not-false}
 use Rattle.bits.specs.declared.refusal.Fault.{Fault}
@@ -13,9 +13,9 @@ use Rattle.cipher.specs.Parameters.{block_words_of, key_words_of}
 use Rattle.cipher.specs.Sets.{Set}
 use Rattle.cipher.specs.Instances.{set_in}
 use Rattle.cipher.specs.Blocks.{Held, LeadsBack, block_after, block_checks}
-use Rattle.cipher.specs.Sound.{TrueInverses, held_of, passes}
+use Rattle.cipher.specs.Sound.{TrueInverses}
 use Rattle.cipher.specs.Directions.{against, along}
-use Rattle.cipher.proofs.Opened.{no_stray, one_check, opening_sound}
+use Rattle.cipher.proofs.SoundSets.{no_stray, one_check}
 use Rattle.cipher.proofs.Rounds.{decrypt_below, decrypt_encrypt, encrypt_below, encrypt_decrypt}
 use Rattle.cipher.proofs.Strays.{row_none}
 
@@ -79,34 +79,28 @@ left_value way p ws t key x h =
 
 -- ---- by what the instance holds
 
-module _ (o : Option Params) (p : Params) (ws : List ℕ) (is : o ≡ Some p) where
-  pub held_is : held_of o ws ≡ Some (p, ws)
-  held_is = ap (λ (x : Option Params). held_of x ws) is
-
-  pub held_true : passes (held_of o ws) ≡ true → TrueInverses p ws
-  held_true e = opening_sound p ws (subst (λ (h : Held). passes h ≡ true) held_is e)
-
-  pub answer_held : (r : Result Unit Fault) (key block : List ℕ) (work : ℕ) → r ≡ block_checks (Some (p, ws)) key block work → r ≡ block_checks (held_of o ws) key block work
-  answer_held r key block work e = e ∙ sym (ap (λ (h : Held). block_checks h key block work) held_is)
+module _ (h : Held) (p : Params) (ws : List ℕ) (is : h ≡ Some (p, ws)) where
+  pub answer_held : (r : Result Unit Fault) (key block : List ℕ) (work : ℕ) → r ≡ block_checks (Some (p, ws)) key block work → r ≡ block_checks h key block work
+  answer_held r key block work e = e ∙ sym (ap (λ (h : Held). block_checks h key block work) is)
 
   pub refusal_held : (r : Result Unit Fault) (x e : Fault) (key block : List ℕ) (work : ℕ) → r ≡ Err x → x ≡ e → Err e ≡ block_checks (Some (p, ws)) key block work
-      → r ≡ block_checks (held_of o ws) key block work
-  refusal_held r x e key block work a b is = answer_held r key block work (a ∙ ap Err b ∙ is)
+      → r ≡ block_checks h key block work
+  refusal_held r x e key block work a b at = answer_held r key block work (a ∙ ap Err b ∙ at)
 
-  pub block_held : (f : Set → ℕ → ℕ → ℕ) (key block after : List ℕ) → after ≡ words_of (block_words_of p) (f (set_in p ws) (value key) (value block)) → after ≡ block_after f (held_of o ws) (Ok tt) key block
-  block_held f key block after e = e ∙ sym (ap (λ (h : Held). block_after f h (Ok tt) key block) held_is)
+  pub block_held : (f : Set → ℕ → ℕ → ℕ) (key block after : List ℕ) → after ≡ words_of (block_words_of p) (f (set_in p ws) (value key) (value block)) → after ≡ block_after f h (Ok tt) key block
+  block_held f key block after e = e ∙ sym (ap (λ (h : Held). block_after f h (Ok tt) key block) is)
 
   pub back_held : (way : Direction) (key block after : List ℕ) → TrueInverses p ws → value block < 2 ^ p.n
-      → after ≡ words_of (block_words_of p) (along way (set_in p ws) (value key) (value block)) → LeadsBack (against way) (held_of o ws) (Ok tt) key block after
-  back_held way key block after t h e =
-      subst (λ (x : Held). LeadsBack (against way) x (Ok tt) key block after) (sym held_is)
-      (ap (against way (set_in p ws) (value key)) (ap value e ∙ left_value way p ws t (value key) (value block) h) ∙ against_along way p ws t (value key) (value block) h)
+      → after ≡ words_of (block_words_of p) (along way (set_in p ws) (value key) (value block)) → LeadsBack (against way) h (Ok tt) key block after
+  back_held way key block after t b e =
+      subst (λ (x : Held). LeadsBack (against way) x (Ok tt) key block after) (sym is)
+      (ap (against way (set_in p ws) (value key)) (ap value e ∙ left_value way p ws t (value key) (value block) b) ∙ against_along way p ws t (value key) (value block) b)
 
 -- a call that is refused leaves the block
-pub block_refused : (f : Set → ℕ → ℕ → ℕ) (o : Option Params) (ws key block : List ℕ) (r : Result Unit Fault) (e : Fault) → r ≡ Err e → block ≡ block_after f (held_of o ws) r key block
-block_refused f None ws key block r e is = refl
-block_refused f (Some p) ws key block r e is = sym (ap (λ (x : Result Unit Fault). block_after f (Some (p, ws)) x key block) is)
+pub block_refused : (f : Set → ℕ → ℕ → ℕ) (h : Held) (key block : List ℕ) (r : Result Unit Fault) (e : Fault) → r ≡ Err e → block ≡ block_after f h r key block
+block_refused f None key block r e is = refl
+block_refused f (Some (p, ws)) key block r e is = sym (ap (λ (x : Result Unit Fault). block_after f (Some (p, ws)) x key block) is)
 
-pub back_refused : (g : Set → ℕ → ℕ → ℕ) (o : Option Params) (ws key block after : List ℕ) (r : Result Unit Fault) (e : Fault) → r ≡ Err e → LeadsBack g (held_of o ws) r key block after
-back_refused g None ws key block after r e is = tt
-back_refused g (Some p) ws key block after r e is = subst (λ (x : Result Unit Fault). LeadsBack g (Some (p, ws)) x key block after) (sym is) tt
+pub back_refused : (g : Set → ℕ → ℕ → ℕ) (h : Held) (key block after : List ℕ) (r : Result Unit Fault) (e : Fault) → r ≡ Err e → LeadsBack g h r key block after
+back_refused g None key block after r e is = tt
+back_refused g (Some (p, ws)) key block after r e is = subst (λ (x : Result Unit Fault). LeadsBack g (Some (p, ws)) x key block after) (sym is) tt

@@ -8,6 +8,6 @@ pub mod Bounds
 pub mod Passes
 pub mod Strays
 pub mod Sums
-pub mod Opened
+pub mod SoundSets
 pub mod Calls
 pub mod Opens

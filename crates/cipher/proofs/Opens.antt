@@ -21,7 +21,7 @@ use Rattle.cipher.specs.Laws.{Invertible}
 use Rattle.cipher.specs.Instances.{constants_place, first_stray_of, first_wrong_of, inverses_place, inverses_in, keys_place, many_limits, matrices_in, opening, row_limits, same, set_in, stray_at, times, units, word_limits, wrong_at}
 use Rattle.cipher.proofs.Bounds.{small}
 use Rattle.cipher.proofs.Limits.{facts_limits}
-use Rattle.cipher.proofs.Opened.{units_mul}
+use Rattle.cipher.proofs.SoundSets.{units_mul}
 use Rattle.cipher.proofs.Strays.{length_many_limits, length_row_limits}
 
 -- ---- no stray bits

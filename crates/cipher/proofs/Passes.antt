@@ -1,10 +1,12 @@
 -- Rounds on a set that stands in words: what one round computes there, and the steps of the loops over them.
-use Rattle.std.proofs.Common.{◌≡◌, ℕ, zero, suc, ◌+◌, ◌-◌, ◌*◌, ◌<◌, List, [], ◌∷◌, map, length, get_or, take, drop, sym, refl, ap, ◌∙◌, ap₂, suc-mul, add_comm, zero-mul, add-one, arith}
+use Rattle.std.proofs.Common.{◌≡◌, ℕ, zero, suc, ◌+◌, ◌-◌, ◌*◌, ◌<◌, List, [], ◌∷◌, map, length, get_or, drop, sym, refl, ap, ◌∙◌, ap₂, suc-mul, add_comm, zero-mul, add-one, arith}
 use lib.Bits.{bit_xor, xor_comm}
 use Rattle.std.proofs.lemmas.List.{drop-drop, get_or-map}
 use Rattle.bits.specs.Gf2.{inverse_of, mul, rows, value}
 use Rattle.cipher.specs.declared.params.Params.{Params}
-use Rattle.cipher.specs.declared.places.Places.{Places}
+use Rattle.bits.specs.Matrices.{rows_in}
+use Rattle.cipher.specs.declared.prepared.Round.{Round}
+use Rattle.cipher.specs.Parts.{PartsOf}
 use Rattle.cipher.specs.Parameters.{block_words_of, key_words_of}
 use Rattle.cipher.specs.Instances.{constants_place, inverses_place, inverses_in, keys_place, matrices_in, set_in}
 use Rattle.cipher.specs.LowMC.{decrypt, decrypt_with, encrypt, encrypt_with, round, rounds, substitution, unround, unrounds, unsubstitution}
@@ -12,32 +14,13 @@ use Rattle.cipher.specs.Places.{constant_at, matrix_at, places_of, unround_by}
 
 -- ---- one round
 
-part : (w at : ℕ) (ws : List ℕ) → value (take ((at + w) - at) (drop at ws)) ≡ constant_at w at ws
-part w at ws =
-    let few : (at + w) - at ≡ w = omega arith in
-    ap (λ (i : ℕ). value (take i (drop at ws))) few
-
 -- what the calls of `forward` compute
-pub forward_is : (n w v m l c k key s u x p q t o : ℕ) (ws : List ℕ)
-    → u ≡ w → x ≡ substitution m s
-    → p ≡ mul (rows u n (drop l ws)) x
-    → q ≡ bit_xor p (value (take ((c + w) - c) (drop c ws)))
-    → t ≡ mul (rows v n (drop k ws)) key
-    → o ≡ bit_xor t q
-    → o ≡ round m key (matrix_at w n l ws) (constant_at w c ws) (matrix_at v n k ws) s
-forward_is n w v m l c k key s u x p q t o ws eu ex ep eq et eo =
-    eo ∙ xor_comm t q ∙ ap₂ bit_xor (eq ∙ ap₂ bit_xor (ep ∙ ap₂ (λ (i y : ℕ). mul (rows i n (drop l ws)) y) eu ex) (part w c ws)) et
+pub forward_is : (m key s C x p q t o : ℕ) (L K : List ℕ) → x ≡ substitution m s → p ≡ mul L x → q ≡ bit_xor p C → t ≡ mul K key → o ≡ bit_xor t q → o ≡ round m key L C K s
+forward_is m key s C x p q t o L K ex ep eq et eo = eo ∙ xor_comm t q ∙ ap₂ bit_xor (eq ∙ ap (λ (y : ℕ). bit_xor y C) (ep ∙ ap (mul L) ex)) et
 
 -- and those of `backward`
-pub backward_is : (n w v m c k key s t p q u o : ℕ) (ws M : List ℕ)
-    → t ≡ mul (rows v n (drop k ws)) key
-    → p ≡ bit_xor s t
-    → q ≡ bit_xor p (value (take ((c + w) - c) (drop c ws)))
-    → u ≡ mul M q
-    → o ≡ unsubstitution m u
-    → o ≡ unround_by m key M (constant_at w c ws) (matrix_at v n k ws) s
-backward_is n w v m c k key s t p q u o ws M et ep eq eu eo =
-    eo ∙ ap (unsubstitution m) (eu ∙ ap (mul M) (eq ∙ ap₂ bit_xor (ep ∙ ap (bit_xor s) et) (part w c ws)))
+pub backward_is : (m key s C t p q u o : ℕ) (M K : List ℕ) → t ≡ mul K key → p ≡ bit_xor s t → q ≡ bit_xor p C → u ≡ mul M q → o ≡ unsubstitution m u → o ≡ unround_by m key M C K s
+backward_is m key s C t p q u o M K et ep eq eu eo = eo ∙ ap (unsubstitution m) (eu ∙ ap (mul M) (eq ∙ ap (λ (y : ℕ). bit_xor y C) (ep ∙ ap (bit_xor s) et)))
 
 -- ---- matrices and rows one after another
 
@@ -125,23 +108,17 @@ module _ (p : Params) (ws : List ℕ) where
       ap (λ (k : ℕ). matrices_in (key_words_of p) p.n k (drop (keys_place p) ws)) e
       ∙ ap₂ (λ (k : ℕ) (xs : List ℕ). matrix_at (key_words_of p) p.n (keys_place p) ws ∷ matrices_in (key_words_of p) p.n k xs) z (drop-drop (p.n * key_words_of p) (keys_place p) ws ∙ ap (λ (k : ℕ). drop k ws) d)
 
-  -- what the calls for round i compute, at the widths and places that they have
-  module _ (i w v : ℕ) (at : Places) (ew : w ≡ block_words_of p) (ev : v ≡ key_words_of p) (ea : at ≡ places_of p i) where
-    pub round_at : (m key s t : ℕ) → t ≡ round m key (matrix_at w p.n at.layer ws) (constant_at w at.constant ws) (matrix_at v p.n at.key ws) s
-        → t ≡ round m key (layer_at p ws i) (constant_of p ws i) (key_at p ws i) s
-    round_at m key s t e =
-        e ∙ ap (λ (x : Places). round m key (matrix_at w p.n x.layer ws) (constant_at w x.constant ws) (matrix_at v p.n x.key ws) s) ea
-        ∙ ap₂ (λ (a b : ℕ). round m key (matrix_at a p.n (places_of p i).layer ws) (constant_at a (places_of p i).constant ws) (matrix_at b p.n (places_of p i).key ws) s) ew ev
+  -- what a round's parts make of a state
+  pub round_at : (i : ℕ) (r : Round) → PartsOf p ws i r → (m key s t : ℕ) → t ≡ round m key (rows_in r.layer) (value r.constant.now) (rows_in r.key) s
+      → t ≡ round m key (layer_at p ws i) (constant_of p ws i) (key_at p ws i) s
+  round_at i r is m key s t e =
+      e ∙ ap₂ (λ (L : List ℕ) (C : ℕ). round m key L C (rows_in r.key) s) is.layer is.constant ∙ ap (λ (K : List ℕ). round m key (layer_at p ws i) (constant_of p ws i) K s) is.key
 
-    pub unround_at : (m key s t : ℕ) → t ≡ unround_by m key (matrix_at w p.n at.inverse ws) (constant_at w at.constant ws) (matrix_at v p.n at.key ws) s
-        → t ≡ unround_by m key (matrix_at (block_words_of p) p.n (places_of p i).inverse ws) (constant_of p ws i) (key_at p ws i) s
-    unround_at m key s t e =
-        e ∙ ap (λ (x : Places). unround_by m key (matrix_at w p.n x.inverse ws) (constant_at w x.constant ws) (matrix_at v p.n x.key ws) s) ea
-        ∙ ap₂ (λ (a b : ℕ). unround_by m key (matrix_at a p.n (places_of p i).inverse ws) (constant_at a (places_of p i).constant ws) (matrix_at b p.n (places_of p i).key ws) s) ew ev
-
-  -- the key that the first matrix gives, as a call computes it
-  pub first_at : (v a key t : ℕ) → v ≡ key_words_of p → a ≡ keys_place p → t ≡ mul (rows v p.n (drop a ws)) key → t ≡ mul (matrix_at (key_words_of p) p.n (keys_place p) ws) key
-  first_at v a key t ev ea e = e ∙ ap₂ (λ (x y : ℕ). mul (rows x p.n (drop y ws)) key) ev ea
+  pub unround_at : (i : ℕ) (r : Round) → PartsOf p ws i r → (m key s t : ℕ) → t ≡ unround_by m key (rows_in r.inverse) (value r.constant.now) (rows_in r.key) s
+      → t ≡ unround_by m key (matrix_at (block_words_of p) p.n (places_of p i).inverse ws) (constant_of p ws i) (key_at p ws i) s
+  unround_at i r is m key s t e =
+      e ∙ ap₂ (λ (M : List ℕ) (C : ℕ). unround_by m key M C (rows_in r.key) s) is.inverse is.constant
+      ∙ ap (λ (K : List ℕ). unround_by m key (matrix_at (block_words_of p) p.n (places_of p i).inverse ws) (constant_of p ws i) K s) is.key
 
   -- the step of `encrypt_state`
   pub rounds_more : (i m key s t out : ℕ) → i < p.r → t ≡ round m key (layer_at p ws i) (constant_of p ws i) (key_at p ws i) s

@@ -120,19 +120,16 @@ stray_within i k (l ∷ A) (x ∷ ws) e = go (ltb x l) (stray_within (suc i) k A
 -- the row at a, whose words are looked at alone
 module _ (w bits a : ℕ) (ws : List ℕ) (room : a + w ≤ length ws) where
   abbrev pub row_there : List ℕ
-  row_there = take ((a + w) - a) (drop a ws)
-
-  few : (a + w) - a ≡ w
-  few = omega arith
+  row_there = take w (drop a ws)
 
   pub row_long : length row_there ≡ w
-  row_long = ap (λ (k : ℕ). length (take k (drop a ws))) few ∙ simp (length-take, length-drop) (omega arith)
+  row_long = simp (length-take, length-drop) (omega arith)
 
   pub row_stray : first_stray_of a (row_limits w bits) (drop a ws) ≡ shifted a (first_stray_of 0 (row_limits (length row_there) bits) row_there)
   row_stray =
       ap (λ (k : ℕ). first_stray_of k (row_limits w bits) (drop a ws)) (sym (add-zero a)) ∙ stray_shift a 0 (row_limits w bits) (drop a ws)
       ∙ ap (shifted a) (sym (stray_take 0 w (row_limits w bits) (drop a ws) (length_row_limits w bits))
-      ∙ sym (ap₂ (λ (k : ℕ) (xs : List ℕ). first_stray_of 0 (row_limits k bits) xs) row_long (ap (λ (k : ℕ). take k (drop a ws)) few)))
+      ∙ sym (ap (λ (k : ℕ). first_stray_of 0 (row_limits k bits) row_there) row_long))
 
   pub rows_stray : (j count b : ℕ) → j < count → a + w ≡ b
       → first_stray_of a (many_limits w bits (count - j)) (drop a ws)
@@ -164,6 +161,16 @@ pub rows_end : (w bits a : ℕ) (ws : List ℕ) (j count : ℕ) (all : Option �
 rows_end w bits a ws j count all h inv =
     let z : 0 ≡ count - j = omega arith in
     ap (λ (k : ℕ). first_stray_of a (many_limits w bits k) (drop a ws)) z ∙ inv
+
+-- a row that a call looks at, from its own first word on
+pub row_seen : (w bits a : ℕ) (ws row : List ℕ) (r : Option ℕ) → row ≡ take w (drop a ws) → r ≡ first_stray_of 0 (row_limits (length row) bits) row → r ≡ first_stray_of 0 (row_limits (length (take w (drop a ws))) bits) (take w (drop a ws))
+row_seen w bits a ws row r is e = e ∙ ap (λ (xs : List ℕ). first_stray_of 0 (row_limits (length xs) bits) xs) is
+
+-- rows at a place, as a call for them alone sees them
+pub part_stray : (w bits count at a b : ℕ) (ws part : List ℕ) (r : Option ℕ) → a ≡ w → b ≡ count → part ≡ drop at ws → r ≡ first_stray_of 0 (many_limits a bits b) part → shifted at r ≡ first_stray_of at (many_limits w bits count) (drop at ws)
+part_stray w bits count at a b ws part r ea eb is e =
+    ap (shifted at) (e ∙ ap₂ (λ (x y : ℕ). first_stray_of 0 (many_limits x bits y) part) ea eb ∙ ap (first_stray_of 0 (many_limits w bits count)) is)
+    ∙ sym (ap (λ (k : ℕ). first_stray_of k (many_limits w bits count) (drop at ws)) (sym (add-zero at)) ∙ stray_shift at 0 (many_limits w bits count) (drop at ws))
 
 -- ---- where there are none
 

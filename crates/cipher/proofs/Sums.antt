@@ -1,13 +1,17 @@
 -- The product of an inverse and a layer, row by row, and the steps of the loops over it.
-use Rattle.std.proofs.Common.{◌≡◌, ℕ, suc, ◌+◌, ◌-◌, ◌*◌, ◌/◌, ◌%◌, ◌^◌, ◌<◌, ◌≤◌, Bool, true, false, cond, ◌&&◌, eqb, List, ◌∷◌, length, take, drop, Some, Option, sym, refl, ap, ◌∙◌, ap₂, zero-mul, div-one, add-one, arith, length-drop, length-take, shr-shr}
+use Rattle.std.proofs.Common.{◌≡◌, ℕ, suc, ◌+◌, ◌-◌, ◌*◌, ◌/◌, ◌%◌, ◌^◌, ◌<◌, ◌≤◌, Bool, true, false, cond, ◌&&◌, eqb, List, ◌∷◌, drop, Some, None, Option, MatchOption, sym, refl, ap, ◌∙◌, ap₂, zero-mul, div-one, add-one, arith, shr-shr}
 use lib.Bits.{bit_xor, xor_assoc, xor_comm, xor_self, xor_zero_r}
 use Rattle.std.proofs.lemmas.Bool.{eq-eqb, ne_eqb}
-use Rattle.bits.specs.Gf2.{comb, dot, rows, value}
+use Rattle.std.specs.Option.{is_none}
+use Rattle.bits.specs.Gf2.{comb, dot, rows}
+use Rattle.bits.specs.Gauss.{Lowest}
 use Rattle.bits.proofs.Inverse.{xor_same}
 use Rattle.bits.proofs.Products.{dot_zero_r, pow_step}
 use Rattle.bits.proofs.Rank.{dot_power}
 use Rattle.cipher.specs.declared.params.Params.{Params}
-use Rattle.cipher.specs.declared.places.Places.{Places}
+use Rattle.bits.specs.Matrices.{rows_in}
+use Rattle.cipher.specs.declared.prepared.Round.{Round}
+use Rattle.cipher.specs.Parts.{PartsOf}
 use Rattle.cipher.specs.Parameters.{block_words_of}
 use Rattle.cipher.specs.Instances.{first_wrong_of, inverses_place, inverses_in, matrices_in, same, set_in, times, units}
 use Rattle.cipher.specs.Places.{constant_at, matrix_at, places_of}
@@ -15,25 +19,20 @@ use Rattle.cipher.proofs.Passes.{layer_at, layers_all, layers_open, layers_left,
 
 -- ---- the sum of the rows that a row picks
 
-pub comb_start : (w count at pick z : ℕ) (ws : List ℕ) → z ≡ 0
-    → bit_xor z (comb (rows w (count - 0) (drop (at + 0 * w) ws)) (pick / 2 ^ 0)) ≡ comb (rows w count (drop at ws)) pick
-comb_start w count at pick z ws e =
+pub comb_start : (w count pick z : ℕ) (ws : List ℕ) → z ≡ 0 → bit_xor z (comb (rows w (count - 0) (drop (0 * w) ws)) (pick / 2 ^ 0)) ≡ comb (rows w count ws) pick
+comb_start w count pick z ws e =
     let d : count - 0 ≡ count = omega arith in
-    let a : at + 0 * w ≡ at = omega (arith, zero-mul w) in
+    let a : 0 * w ≡ 0 = zero-mul w in
     let p : pick / 2 ^ 0 ≡ pick = div-one pick in
-    ap₂ (λ (x y : ℕ). bit_xor x (comb (rows w (count - 0) (drop (at + 0 * w) ws)) y)) e p
-    ∙ ap₂ (λ (k i : ℕ). bit_xor 0 (comb (rows w k (drop i ws)) pick)) d a
-    ∙ xor_comm 0 (comb (rows w count (drop at ws)) pick) ∙ xor_zero_r (comb (rows w count (drop at ws)) pick)
+    ap₂ (λ (x y : ℕ). bit_xor x (comb (rows w (count - 0) (drop (0 * w) ws)) y)) e p
+    ∙ ap₂ (λ (k i : ℕ). bit_xor 0 (comb (rows w k (drop i ws)) pick)) d a ∙ xor_comm 0 (comb (rows w count ws) pick) ∙ xor_zero_r (comb (rows w count ws) pick)
 
-pub comb_more : (w count i a b pick s t all : ℕ) (ws : List ℕ) → i < count → a + w ≡ b → t ≡ bit_xor s (dot (2 ^ i) pick * value (take ((a + w) - a) (drop a ws)))
-    → bit_xor s (comb (rows w (count - i) (drop a ws)) (pick / 2 ^ i)) ≡ all
-    → bit_xor t (comb (rows w (count - (i + 1)) (drop b ws)) (pick / 2 ^ (i + 1))) ≡ all
+pub comb_more : (w count i a b pick s t all : ℕ) (ws : List ℕ) → i < count → a + w ≡ b → t ≡ bit_xor s (dot (2 ^ i) pick * constant_at w a ws)
+    → bit_xor s (comb (rows w (count - i) (drop a ws)) (pick / 2 ^ i)) ≡ all → bit_xor t (comb (rows w (count - (i + 1)) (drop b ws)) (pick / 2 ^ (i + 1))) ≡ all
 comb_more w count i a b pick s t all ws h e et inv =
-    let few : (a + w) - a ≡ w = omega arith in
     let rest : ℕ = comb (rows w (count - (i + 1)) (drop b ws)) (pick / 2 ^ (i + 1)) in
     let r : ℕ = constant_at w a ws in
-    ap (λ (x : ℕ). bit_xor x rest) (et ∙ ap₂ (λ (d k : ℕ). bit_xor s (d * value (take k (drop a ws)))) (dot_power i pick) few)
-    ∙ xor_assoc s (pick / 2 ^ i % 2 * r) rest
+    ap (λ (x : ℕ). bit_xor x rest) (et ∙ ap (λ (d : ℕ). bit_xor s (d * r)) (dot_power i pick)) ∙ xor_assoc s (pick / 2 ^ i % 2 * r) rest
     ∙ ap (λ (y : ℕ). bit_xor s (bit_xor (pick / 2 ^ i % 2 * r) (comb (rows w (count - (i + 1)) (drop b ws)) y))) (sym (shr-shr pick i 1))
     ∙ sym (ap (λ (rs : List ℕ). bit_xor s (comb rs (pick / 2 ^ i))) (rows_open_at w count i a b ws h e)) ∙ inv
 
@@ -55,6 +54,11 @@ unit_some v p x k e one = sym (ne_eqb v p (λ q.
     let z : x ≡ 0 = e ∙ ap₂ bit_xor q (one_times p) ∙ xor_self p in
     let d : dot (2 ^ k) x ≡ 0 = ap (dot (2 ^ k)) z ∙ dot_zero_r (2 ^ k) in
     omega (arith, d, one)))
+
+-- whether a vector has bit j and no other, by what flipping it leaves
+pub unit_is : (v p x n : ℕ) (r : Option ℕ) → x ≡ bit_xor v (1 * p) → MatchOption r (x ≡ 0) (λ k. (k < n) × Lowest x k) → is_none r ≡ eqb v p
+unit_is v p x n None e z = unit_none v p x e z
+unit_is v p x n (Some k) e low = unit_some v p x k e low.1.one
 
 -- ---- the rows of the product
 
@@ -79,15 +83,15 @@ module _ (w n : ℕ) (ws L : List ℕ) where
   same_not j a r all h er f inv =
       ap (λ (x : Bool). x && same (times (rows w (n - (j + 1)) (drop (a + w) ws)) L) (units (2 ^ (j + 1)) (n - (j + 1)))) (sym f ∙ er) ∙ sym (rows_same j a (a + w) h refl) ∙ inv
 
--- a row that a call looks at alone
-pub row_is : (w n a layer j : ℕ) (ws : List ℕ) (r : Bool) → a + w ≤ length ws
-    → r ≡ eqb (comb (rows (length (take ((a + w) - a) (drop a ws))) n (drop layer ws)) (value (take ((a + w) - a) (drop a ws)))) (2 ^ j)
-    → r ≡ eqb (comb (matrix_at w n layer ws) (constant_at w a ws)) (2 ^ j)
-row_is w n a layer j ws r room e =
-    let few : (a + w) - a ≡ w = omega arith in
-    let long : length (take w (drop a ws)) ≡ w = simp (length-take, length-drop) (omega arith) in
-    e ∙ ap (λ (k : ℕ). eqb (comb (rows (length (take k (drop a ws))) n (drop layer ws)) (value (take k (drop a ws)))) (2 ^ j)) few
-    ∙ ap (λ (k : ℕ). eqb (comb (rows k n (drop layer ws)) (constant_at w a ws)) (2 ^ j)) long
+pub same_start : (w n : ℕ) (ws L : List ℕ) → same (times (rows w (n - 0) (drop (0 * w) ws)) L) (units (2 ^ 0) (n - 0)) ≡ same (times (rows w n ws) L) (units 1 n)
+same_start w n ws L =
+    let d : n - 0 ≡ n = omega arith in
+    ap₂ (λ (k a : ℕ). same (times (rows w k (drop a ws)) L) (units 1 k)) d (zero-mul w)
+
+pub same_end : (w n j a : ℕ) (ws L : List ℕ) (all : Bool) → j ≡ n → same (times (rows w (n - j) (drop a ws)) L) (units (2 ^ j) (n - j)) ≡ all → true ≡ all
+same_end w n j a ws L all e inv =
+    let z : 0 ≡ n - j = omega arith in
+    ap (λ (k : ℕ). same (times (rows w k (drop a ws)) L) (units (2 ^ j) k)) z ∙ inv
 
 -- ---- round by round
 
@@ -108,12 +112,11 @@ module _ (p : Params) (ws : List ℕ) where
       let a : inverses_place p + 0 * (p.n * block_words_of p) ≡ inverses_place p = omega (arith, zero-mul (p.n * block_words_of p)) in
       ap₂ (λ (k i : ℕ). matrices_in (block_words_of p) p.n k (drop i ws)) z a
 
-  -- what a call for round i answers, at the width and places that it has
-  pub same_at : (i w : ℕ) (at : Places) (r : Bool) → w ≡ block_words_of p → at ≡ places_of p i
-      → r ≡ same (times (matrix_at w p.n at.inverse ws) (matrix_at w p.n at.layer ws)) (units 1 p.n)
+  -- what a call for round i answers
+  pub same_at : (i : ℕ) (x : Round) (r : Bool) → PartsOf p ws i x → r ≡ same (times (rows_in x.inverse) (rows_in x.layer)) (units 1 x.inverse.height)
       → r ≡ same (times (inverse_at p ws i) (layer_at p ws i)) (units 1 p.n)
-  same_at i w at r ew ea e =
-      e ∙ ap₂ (λ (k : ℕ) (x : Places). same (times (matrix_at k p.n x.inverse ws) (matrix_at k p.n x.layer ws)) (units 1 p.n)) ew ea
+  same_at i x r is e =
+      e ∙ ap₂ (λ (M L : List ℕ). same (times M L) (units 1 x.inverse.height)) is.inverse is.layer ∙ ap (λ (k : ℕ). same (times (inverse_at p ws i) (layer_at p ws i)) (units 1 k)) is.tall.1
 
   wrong_open : (i : ℕ) → i < p.r → first_wrong_of p.n (i + 1) (inverses_left p ws i) (layers_left p ws i)
       ≡ cond (same (times (inverse_at p ws i) (layer_at p ws i)) (units 1 p.n)) (first_wrong_of p.n (i + 1 + 1) (inverses_left p ws (i + 1)) (layers_left p ws (i + 1))) (Some (i + 1))

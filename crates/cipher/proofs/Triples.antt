@@ -1,11 +1,15 @@
 -- The steps of `flip`, `substitute` and `unsubstitute`.
-use Rattle.std.proofs.Common.{◌≡◌, ℕ, zero, suc, ◌+◌, ◌*◌, ◌/◌, ◌%◌, ◌^◌, ◌<◌, List, length, get_or, set, sym, refl, ap, ◌∙◌, ap₂, add-zero, mul_assoc, mul_comm, zero-add, mul-one, div-one, mul_left_comm, add-one, arith, pow_pos, pow-add, shr-shr}
+use Rattle.std.proofs.Common.{◌≡◌, ℕ, zero, suc, ◌+◌, ◌*◌, ◌/◌, ◌%◌, ◌^◌, ◌<◌, List, length, get_or, set, sym, refl, ap, ◌∙◌, subst, ap₂, add-zero, mul_assoc, mul_comm, zero-add, mul-one, div-one, mul_left_comm, add-one, arith, pow_pos, pow-add, shr-shr}
 use lib.Pow.{field}
-use lib.Bits.{bit_and, bit_xor, xor_assoc, xor_block, xor_lt, xor_self, xor_zero_r}
+use lib.Bits.{bit_and, bit_xor, and_lt, xor_assoc, xor_block, xor_lt, xor_self, xor_zero_r}
 use Rattle.std.proofs.lemmas.Nat.{shl_whole}
 use Rattle.bits.specs.Gf2.{Words, dot, value}
+use Rattle.bits.proofs.Products.{dot_below}
 use Rattle.bits.proofs.Rank.{dot_power}
 use Rattle.bits.proofs.Vectors.{value_set_xor}
+use Rattle.cipher.specs.Boxes.{added as added_by, boxes}
+use Rattle.cipher.specs.declared.direction.Direction.{Direction}
+use Rattle.cipher.specs.declared.direction.Direction.TheVariants.{Encrypt, Decrypt}
 use Rattle.cipher.specs.LowMC.{box, each, substitution, unbox, unsubstitution}
 use Rattle.cipher.proofs.Substitution.{box_below, eight, unbox_below}
 
@@ -130,3 +134,32 @@ substitution_none x = refl
 pub unsubstitution_none : (x : ℕ) → x ≡ unsubstitution 0 x
 unfolding unsubstitution each
 unsubstitution_none x = refl
+
+-- ---- either way
+
+pub boxes_none : (way : Direction) (x : ℕ) → x ≡ boxes way 0 x
+boxes_none Encrypt x = substitution_none x
+boxes_none Decrypt x = unsubstitution_none x
+
+-- what is added to a bit is a bit
+pub added_digits : (way : Direction) (a b c : ℕ) → a < 2 → b < 2 → c < 2 → ((added_by way a b c).0 < 2) × ((added_by way a b c).1 < 2) × ((added_by way a b c).2 < 2)
+added_digits Encrypt a b c ha hb hc = (and_lt 1 b c hb hc, xor_lt 1 a (bit_and a c) ha (and_lt 1 a c ha hc), xor_lt 1 (bit_xor a b) (bit_and a b) (xor_lt 1 a b ha hb) (and_lt 1 a b ha hb))
+added_digits Decrypt a b c ha hb hc = (xor_lt 1 b (bit_and b c) hb (and_lt 1 b c hb hc), and_lt 1 a c ha hc, xor_lt 1 (bit_xor a b) (bit_and a b) (xor_lt 1 a b ha hb) (and_lt 1 a b ha hb))
+
+pub boxes_more : (way : Direction) (t s v a b c : ℕ) → v ≡ boxes way t s → a ≡ dot (2 ^ (3 * t)) v → b ≡ dot (2 ^ (3 * t + 1)) v → c ≡ dot (2 ^ (3 * t + 2)) v
+    → bit_xor (bit_xor (bit_xor v ((added_by way a b c).0 * 2 ^ (3 * t))) ((added_by way a b c).1 * 2 ^ (3 * t + 1))) ((added_by way a b c).2 * 2 ^ (3 * t + 2)) ≡ boxes way (t + 1) s
+boxes_more Encrypt = substitution_more
+boxes_more Decrypt = unsubstitution_more
+
+-- the three additions in the code
+pub changes_small : (way : Direction) (v i a b c : ℕ) (r : ℕ × ℕ × ℕ) → a ≡ dot (2 ^ i) v → b ≡ dot (2 ^ (i + 1)) v → c ≡ dot (2 ^ (i + 2)) v → r ≡ added_by way a b c → (r.0 < 2) × (r.1 < 2) × (r.2 < 2)
+changes_small way v i a b c r ea eb ec er =
+    subst (λ (x : ℕ × ℕ × ℕ). (x.0 < 2) × (x.1 < 2) × (x.2 < 2)) (sym er)
+    (added_digits way a b c (omega (arith, ea, dot_below (2 ^ i) v)) (omega (arith, eb, dot_below (2 ^ (i + 1)) v)) (omega (arith, ec, dot_below (2 ^ (i + 2)) v)))
+
+pub boxes_step : (way : Direction) (t s v a b c x y z : ℕ) (r : ℕ × ℕ × ℕ) → v ≡ boxes way t s → a ≡ dot (2 ^ (3 * t)) v → b ≡ dot (2 ^ (3 * t + 1)) v → c ≡ dot (2 ^ (3 * t + 2)) v → r ≡ added_by way a b c
+    → x ≡ bit_xor v (r.0 * 2 ^ (3 * t)) → y ≡ bit_xor x (r.1 * 2 ^ (3 * t + 1)) → z ≡ bit_xor y (r.2 * 2 ^ (3 * t + 2)) → z ≡ boxes way (t + 1) s
+boxes_step way t s v a b c x y z r ev ea eb ec er ex ey ez =
+    ez ∙ ap (λ (u : ℕ). bit_xor u (r.2 * 2 ^ (3 * t + 2))) (ey ∙ ap (λ (u : ℕ). bit_xor u (r.1 * 2 ^ (3 * t + 1))) ex)
+    ∙ ap (λ (q : ℕ × ℕ × ℕ). bit_xor (bit_xor (bit_xor v (q.0 * 2 ^ (3 * t))) (q.1 * 2 ^ (3 * t + 1))) (q.2 * 2 ^ (3 * t + 2))) er
+    ∙ boxes_more way t s v a b c ev ea eb ec

@@ -9,3 +9,6 @@ pub mod Places
 pub mod Sound
 pub mod Holds
 pub mod Directions
+pub mod Parts
+pub mod Boxes
+pub mod Held

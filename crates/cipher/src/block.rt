@@ -2,21 +2,21 @@
 ghost use Rattle.std.specs.Prelude.{◌≡◌, ℕ, ◌≤◌, List, length, replicate, Some};
 ghost use Rattle.bits.specs.Gf2.{value, words_of};
 ghost use Rattle.cipher.specs.LowMC.{decrypt as deciphered, encrypt as enciphered};
-ghost use Rattle.cipher.specs.Parameters.{block_words_of, key_words_of};
+ghost use Rattle.cipher.specs.Parameters.{block_words_of};
 ghost use Rattle.cipher.specs.Instances.{set_in};
 ghost use Rattle.cipher.specs.Blocks.{LeadsBack, block_after, block_checks};
-ghost use Rattle.cipher.specs.Sound.{TrueInverses};
 ghost use Rattle.cipher.specs.Holds.{held_by};
 ghost use Rattle.cipher.specs.Directions.{against, along};
 
 use crate::direction::Direction;
 use crate::guard::Wipe;
 use crate::instance::Instance;
+use crate::opened::Opened;
 use crate::params::Params;
 use crate::round::{decrypt_state, encrypt_state};
-use crate::state::fitting;
 use crate::stray::first_stray;
 use bits::refusal::{Fault, Layer, Refusal};
+use bits::words::fitting;
 
 // Work words of a call: a state and a spare one, of at most 4 words each.
 const WORK: usize = 8;
@@ -44,67 +44,47 @@ fn check_call(p: Params, key: &[u64], block: &[u64], work: usize) -> Result<(), 
 }
 
 // The cipher on a state; `spare` is changed.
-fn run_state(
-    way: Direction,
-    words: &[u64],
-    p: Params,
-    key: &[u64],
-    state: &mut [u64],
-    spare: &mut [u64],
-)
-    requires sound { TrueInverses p words.now }
-    requires keyed { length key.now ≡ key_words_of p }
-    requires size { length state.old ≡ block_words_of p }
-    requires same { length spare.old ≡ block_words_of p }
-    ensures { value state.new ≡ along way (set_in p words.now) (value key.now) (value state.old) }
+fn run_state(way: Direction, opened: Opened<'_>, key: &[u64], state: &mut [u64], spare: &mut [u64])
+    requires size { length state.old ≡ block_words_of opened.set.params }
+    requires same { length spare.old ≡ block_words_of opened.set.params }
+    ensures { value state.new ≡ along way (set_in opened.entry.set.params opened.entry.set.words.now) (value key.now) (value state.old) }
 {
+    // A switch and no closure: the two differ in what they ask of a set, and a closure's contract would say all of both.
     match way {
-        Direction::Encrypt => encrypt_state(words, p, key, state, spare),
-        Direction::Decrypt => decrypt_state(words, p, key, state, spare),
+        Direction::Encrypt => encrypt_state(opened.set, key, state, spare),
+        Direction::Decrypt => decrypt_state(opened.set, key, state, spare),
     }
 }
 
 // The cipher on a block, which changes only at the end.
 fn run_in(
     way: Direction,
-    words: &[u64],
-    p: Params,
+    opened: Opened<'_>,
     key: &[u64],
     block: &mut [u64],
     state: &mut [u64],
     spare: &mut [u64],
 )
-    requires sound { TrueInverses p words.now }
-    requires keyed { length key.now ≡ key_words_of p }
-    requires size { length block.old ≡ block_words_of p }
-    requires room { length state.old ≡ block_words_of p }
-    requires same { length spare.old ≡ block_words_of p }
-    ensures { block.new ≡ words_of (block_words_of p) (along way (set_in p words.now) (value key.now) (value block.old)) }
+    requires size { length block.old ≡ block_words_of opened.set.params }
+    requires room { length state.old ≡ block_words_of opened.set.params }
+    requires same { length spare.old ≡ block_words_of opened.set.params }
+    ensures { block.new ≡ words_of (block_words_of opened.entry.set.params) (along way (set_in opened.entry.set.params opened.entry.set.words.now) (value key.now) (value block.old)) }
 {
     state.copy_from_slice(block);
-    run_state(way, words, p, key, state, spare);
+    run_state(way, opened, key, state, spare);
     block.copy_from_slice(state);
     fitting(block);
 }
 
 // The same in work memory: its first words are the state, its second half is spare.
-fn run_block(
-    way: Direction,
-    words: &[u64],
-    p: Params,
-    key: &[u64],
-    block: &mut [u64],
-    work: &mut [u64],
-)
-    requires sound { TrueInverses p words.now }
-    requires keyed { length key.now ≡ key_words_of p }
-    requires size { length block.old ≡ block_words_of p }
+fn run_block(way: Direction, opened: Opened<'_>, key: &[u64], block: &mut [u64], work: &mut [u64])
+    requires size { length block.old ≡ block_words_of opened.set.params }
     requires room { 8 ≤ length work.old }
-    ensures { block.new ≡ words_of (block_words_of p) (along way (set_in p words.now) (value key.now) (value block.old)) }
+    ensures { block.new ≡ words_of (block_words_of opened.entry.set.params) (along way (set_in opened.entry.set.params opened.entry.set.words.now) (value key.now) (value block.old)) }
 {
     let w = block.len();
     let (state, spare) = work.split_at_mut(4);
-    run_in(way, words, p, key, block, &mut state[..w], &mut spare[..w]);
+    run_in(way, opened, key, block, &mut state[..w], &mut spare[..w]);
 }
 
 // The checks of a call and, where they pass, the cipher. What is left in `work` is the guard's to wipe.
@@ -119,16 +99,12 @@ fn attempt(
     ensures block { block.new ≡ block_after (along way) (held_by held.now) result key.now block.old }
     ensures back { LeadsBack (against way) (held_by held.now) result key.now block.old block.new }
 {
-    match held.params {
-        None => {
-            return Err(Fault::at(Refusal::NoInstance, Layer::Batch, 0));
-        }
-        Some(p) => {
-            check_call(p, key, block, work.len())?;
-            run_block(way, held.words, p, key, block, work);
-            return Ok(());
-        }
-    }
+    let Some(opened) = held.opened else {
+        return Err(Fault::at(Refusal::NoInstance, Layer::Batch, 0));
+    };
+    check_call(opened.set.params, key, block, work.len())?;
+    run_block(way, opened, key, block, work);
+    Ok(())
 }
 
 // A call: everything runs while the guard lives.

@@ -1,13 +1,13 @@
-// An instance: parameters and the words of a prepared set that passed the checks of opening, or nothing yet.
+// An instance: a prepared set that passed the checks of opening, or nothing yet.
 ghost use Rattle.std.specs.Prelude.{◌≡◌, true};
-ghost use Rattle.cipher.specs.Sound.{held_of, passes};
+ghost use Rattle.cipher.specs.Sound.{passes};
+ghost use Rattle.cipher.specs.Held.{held_in};
 
-use crate::params::Params;
+use crate::opened::Opened;
 
-// The set is lent, not copied. Without parameters nothing is held, and the words do not count.
+// The set is lent, not copied.
 #[derive(Drop)]
 pub struct Instance<'a> {
-    pub(crate) params: Option<Params>,
-    pub(crate) words: &'a [u64],
-    ghost passed: { passes (held_of params words.now) ≡ true },
+    pub(crate) opened: Option<Opened<'a>>,
+    ghost passed: { passes (held_in opened) ≡ true },
 }

@@ -6,7 +6,9 @@ ghost use Rattle.cipher.specs.Holds.{held_by};
 
 use crate::instance::Instance;
 use crate::inverse::first_wrong;
+use crate::opened::Opened;
 use crate::params::Params;
+use crate::prepared::Prepared;
 use crate::stray::first_in_set;
 use bits::refusal::{Fault, Layer, Refusal};
 
@@ -19,10 +21,11 @@ fn check_set(params: Params, words: &[u64]) -> Result<(), Fault>
     if words.len() < wanted {
         return Err(Fault::at(Refusal::TooFewWords, Layer::Set, wanted));
     }
-    if let Some(i) = first_in_set(words, params) {
+    let set = Prepared::new(params, words);
+    if let Some(i) = first_in_set(set) {
         return Err(Fault::at(Refusal::StrayBit, Layer::Set, i));
     }
-    if let Some(i) = first_wrong(words, params) {
+    if let Some(i) = first_wrong(set) {
         return Err(Fault::at(Refusal::NotInverse, Layer::Set, i));
     }
     Ok(())
@@ -33,10 +36,7 @@ impl<'a> Instance<'a> {
     pub fn empty() -> Instance<'a>
         ensures { held_by result ≡ None }
     {
-        Instance {
-            params: None,
-            words: &[],
-        }
+        Instance { opened: None }
     }
 
     // Takes in a prepared set. Refused, the instance holds what it held before.
@@ -45,10 +45,9 @@ impl<'a> Instance<'a> {
         ensures holds { held_by self.new ≡ held_after result (held_by self.old) params words.now }
     {
         check_set(params, words)?;
-        *self = Instance {
-            params: Some(params),
-            words,
-        };
+        let set = Prepared::new(params, words);
+        let opened = Some(Opened { set });
+        *self = Instance { opened };
         Ok(())
     }
 
@@ -57,7 +56,7 @@ impl<'a> Instance<'a> {
         ensures value { result ≡ params_in (held_by self.now) }
         ensures sound { Sound (held_by self.now) }
     {
-        self.params // none where nothing is held
+        self.opened.map(|opened| opened.set.params)
     }
 
     // The parameters and the words of the set that is held.
@@ -65,9 +64,7 @@ impl<'a> Instance<'a> {
         ensures value { MatchOption result (held_by self.now ≡ None) (λ x. held_by self.now ≡ Some (x.0, x.1.now)) }
         ensures sound { Sound (held_by self.now) }
     {
-        match self.params {
-            None => None,
-            Some(p) => Some((p, self.words)),
-        }
+        let Opened { set } = self.opened?;
+        Some((set.params, set.words))
     }
 }

@@ -19,10 +19,10 @@ impl Params {
     pub fn check(self) -> Result<(), Fault>
         ensures { result ≡ limits self }
     {
-        let block = 3 <= self.n && self.n <= 256;
-        let key = 1 <= self.k && self.k <= 256;
+        let block = (3..=256).contains(&self.n);
+        let key = (1..=256).contains(&self.k);
         let triples = 1 <= self.m && 3 * u32::from(self.m) <= u32::from(self.n);
-        let rounds = 1 <= self.r && self.r <= 255;
+        let rounds = (1..=255).contains(&self.r);
         if block && key && triples && rounds {
             Ok(())
         } else {

@@ -22,15 +22,9 @@ const TABLE: [(u16, u16, u16, u16, u64); 9] = [
 fn look_up(row: usize) -> Option<Published>
     ensures { result ≡ row_of row }
 {
-    if row < 9 {
-        let (n, m, k, r, gates) = TABLE[row];
-        Some(Published {
-            params: Params { n, k, m, r },
-            gates,
-        })
-    } else {
-        None
-    }
+    let (n, m, k, r, gates) = TABLE.get(row).copied()?;
+    let params = Params { n, k, m, r };
+    Some(Published { params, gates })
 }
 
 // The set of that number, from 0 to 8. Its gates are 3mr, and its parameters are within the limits.

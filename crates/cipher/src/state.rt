@@ -1,16 +1,10 @@
 // The state of a block in words, and the substitution layer on it. No function here branches or indexes on what a state holds.
 ghost use Rattle.std.specs.Prelude.{◌≡◌, ◌*◌, ◌^◌, ◌<◌, ◌≤◌, length, bit_xor};
-ghost use Rattle.bits.specs.Gf2.{Words, value};
-ghost use Rattle.cipher.specs.LowMC.{substitution, unsubstitution};
+ghost use Rattle.bits.specs.Gf2.{value};
+ghost use Rattle.cipher.specs.Boxes.{added, boxes};
 
-use bits::words::bit;
-
-// Does nothing but say that each word is below 2^64: a proof knows that of a shared slice, and not of one that was written to.
-pub(crate) fn fitting(v: &[u64])
-    ensures { Words v.now }
-{
-    let _none = v.is_empty();
-}
+use crate::direction::Direction;
+use bits::words::{bit, fitting};
 
 // Adds `on`, which is 0 or 1, to bit `j` of a vector.
 pub(crate) fn flip(s: &mut [u64], j: usize, on: u64)
@@ -22,36 +16,28 @@ pub(crate) fn flip(s: &mut [u64], j: usize, on: u64)
     s[j / 64] ^= on << (j % 64);
 }
 
-// The substitution of the `m` lowest triples. A triple may straddle two words, so it is read and changed bit by bit.
-pub(crate) fn substitute(s: &mut [u64], m: usize)
-    requires fits { 3 * m ≤ 64 * length s.old }
-    requires small { m < 2 ^ 32 }
-    ensures { value s.new ≡ substitution m (value s.old) }
+// What the S-box, or its inverse, adds to each bit of a triple.
+fn change(way: Direction, a: u64, b: u64, c: u64) -> (u64, u64, u64)
+    ensures { result ≡ added way a b c }
 {
-    for t in 0..m {
-        let p = 3 * t;
-        let a = bit(s, p);
-        let b = bit(s, p + 1);
-        let c = bit(s, p + 2);
-        flip(s, p, b & c);
-        flip(s, p + 1, a ^ (a & c));
-        flip(s, p + 2, a ^ b ^ (a & b));
-    }
+    let (first, second) = match way {
+        Direction::Encrypt => (b & c, a ^ (a & c)),
+        Direction::Decrypt => (b ^ (b & c), a & c),
+    };
+    (first, second, a ^ b ^ (a & b))
 }
 
-// The inverse of `substitute`.
-pub(crate) fn unsubstitute(s: &mut [u64], m: usize)
+// The substitution of the `m` lowest triples, or its inverse. A triple may straddle two words, so it is read and changed bit by bit.
+pub(crate) fn substitute(way: Direction, s: &mut [u64], m: usize)
     requires fits { 3 * m ≤ 64 * length s.old }
     requires small { m < 2 ^ 32 }
-    ensures { value s.new ≡ unsubstitution m (value s.old) }
+    ensures { value s.new ≡ boxes way m (value s.old) }
 {
     for t in 0..m {
         let p = 3 * t;
-        let a = bit(s, p);
-        let b = bit(s, p + 1);
-        let c = bit(s, p + 2);
-        flip(s, p, b ^ (b & c));
-        flip(s, p + 1, a & c);
-        flip(s, p + 2, a ^ b ^ (a & b));
+        let (first, second, third) = change(way, bit(s, p), bit(s, p + 1), bit(s, p + 2));
+        flip(s, p, first);
+        flip(s, p + 1, second);
+        flip(s, p + 2, third);
     }
 }

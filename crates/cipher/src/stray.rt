@@ -1,10 +1,10 @@
-// Stray bits: bits of a word at or past the end of its row. Leaves for the crates above: `first_in_rows` leaves sizes to its caller.
+// Stray bits: bits of a word at or past the end of its row.
 ghost use Rattle.std.specs.Prelude.{◌≡◌, ◌+◌, ◌*◌, ◌^◌, ◌<◌, ◌≤◌, min, not, length, drop, nat_lt};
-ghost use Rattle.cipher.specs.Parameters.{Lawful, prepared_words_of};
 ghost use Rattle.cipher.specs.Instances.{first_stray_of, many_limits, row_limits, word_limits};
 
-use crate::params::Params;
 use crate::places::{inverses_from, keys_from};
+use crate::prepared::Prepared;
+use bits::matrix::Matrix;
 
 // Whether a word has a bit at or past `bits`. The test is on the word as a whole, and the answer is public: such a word is refused.
 fn strays(word: u64, bits: usize) -> bool
@@ -18,8 +18,8 @@ pub fn first_stray(words: &[u64], bits: usize) -> Option<usize>
     ensures { result ≡ first_stray_of 0 (row_limits (length words.now) bits) words.now }
 {
     let mut left = bits;
-    for i in 0..words.len() {
-        if strays(words[i], left) {
+    for (i, word) in words.iter().enumerate() {
+        if strays(*word, left) {
             return Some(i);
         }
         left = left.saturating_sub(64);
@@ -27,36 +27,39 @@ pub fn first_stray(words: &[u64], bits: usize) -> Option<usize>
     None
 }
 
-// The first such word in `count` rows of `w` words from `at` on.
-pub fn first_in_rows(words: &[u64], at: usize, count: usize, w: usize, bits: usize) -> Option<usize>
-    requires { at + count * w ≤ length words.now }
-    ensures { result ≡ first_stray_of at (many_limits w bits count) (drop at words.now) }
+// The first such word in rows of `bits` bits.
+pub fn first_in_rows(m: Matrix<'_>, bits: usize) -> Option<usize>
+    ensures { result ≡ first_stray_of 0 (many_limits m.entry.width bits m.entry.height) m.entry.words.now }
 {
-    for j in 0..count {
-        let start = at + j * w;
-        if let Some(i) = first_stray(&words[start..start + w], bits) {
-            return Some(start + i);
+    for (j, row) in m.rows().enumerate() {
+        if let Some(i) = first_stray(row, bits) {
+            return Some(j * m.width + i);
         }
     }
     None
 }
 
-// The first such word of a prepared set, of all its words: layers and constants, key matrices, inverses.
-pub(crate) fn first_in_set(words: &[u64], p: Params) -> Option<usize>
-    requires limits { Lawful p }
-    requires room { prepared_words_of p ≤ length words.now }
-    ensures { result ≡ first_stray_of 0 (word_limits p) words.now }
+// The first such word of rows that stand at a place of a set.
+fn first_in_part(set: Prepared<'_>, at: usize, w: usize, count: usize, bits: usize) -> Option<usize>
+    requires { at + count * w ≤ length set.words.now }
+    ensures { result ≡ first_stray_of at (many_limits w bits count) (drop at set.entry.words.now) }
 {
-    let n = p.n as usize;
-    let r = p.r as usize;
-    let w = p.block_words();
-    if let Some(i) = first_in_rows(words, 0, r * n + r, w, n) {
+    let i = first_in_rows(Matrix::new(&set.words[at..], w, count), bits)?;
+    Some(at + i)
+}
+
+// The first such word of a prepared set, of all its words: layers and constants, key matrices, inverses.
+pub(crate) fn first_in_set(set: Prepared<'_>) -> Option<usize>
+    ensures { result ≡ first_stray_of 0 (word_limits set.entry.params) set.entry.words.now }
+{
+    let p = set.params;
+    let (n, k, r) = (p.n as usize, p.k as usize, p.r as usize);
+    let (w, v) = (p.block_words(), p.key_words());
+    if let Some(i) = first_in_part(set, 0, w, r * n + r, n) {
         return Some(i);
     }
-    let keys = keys_from(p);
-    if let Some(i) = first_in_rows(words, keys, (r + 1) * n, p.key_words(), p.k as usize) {
+    if let Some(i) = first_in_part(set, keys_from(p), v, (r + 1) * n, k) {
         return Some(i);
     }
-    let inverses = inverses_from(p);
-    first_in_rows(words, inverses, r * n, w, n)
+    first_in_part(set, inverses_from(p), w, r * n, n)
 }

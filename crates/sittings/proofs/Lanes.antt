@@ -18,7 +18,7 @@ use Rattle.cipher.specs.Blocks.{Held}
 use Rattle.cipher.specs.Sound.{Sound, TrueInverses}
 use Rattle.cipher.specs.Holds.{held_by}
 use Rattle.cipher.proofs.Calls.{along_below, then_is}
-use Rattle.cipher.proofs.Opened.{no_stray, sound_held}
+use Rattle.cipher.proofs.SoundSets.{no_stray, sound_held}
 use Rattle.cipher.proofs.Rounds.{encrypt_injective}
 use Rattle.cipher.proofs.Strays.{rows_none}
 use Rattle.engines.specs.declared.engine.Account.{Account}

@@ -10,8 +10,8 @@ use Rattle.cipher.proofs.block.run_in.Goals as goal
 pub returns : goal.returns
 returns c =
     let out = c.copy_from_slice-2.new.self in
-    let long : length out ≡ block_words_of c.args.p = c.copy_from_slice-2.ensures.len ∙ c.requires.size in
+    let long : length out ≡ block_words_of c.args.opened.set.params = c.copy_from_slice-2.ensures.len ∙ c.requires.size in
     sym (words_of_value out c.fitting.ensures)
     ∙ ap₂ (λ k x. words_of k x) long
     (ap value c.copy_from_slice-2.ensures.after ∙ c.run_state.ensures
-    ∙ ap (λ xs. along c.args.way (set_in c.args.p c.args.words.now) (value c.args.key.now) (value xs)) c.copy_from_slice.ensures.after)
+    ∙ ap (λ xs. along c.args.way (set_in c.args.opened.set.params c.args.opened.set.words.now) (value c.args.key.now) (value xs)) c.copy_from_slice.ensures.after)

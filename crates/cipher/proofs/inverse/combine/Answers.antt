@@ -1,34 +1,45 @@
-use Rattle.std.proofs.Common.{◌+◌, ◌*◌, ◌/◌, ◌^◌, length, refl, arith}
-use Rattle.bits.specs.Gf2.{value}
-use Rattle.bits.proofs.Vectors.{row_ends, value_cleared}
-use Rattle.cipher.proofs.Passes.{next}
+use Rattle.std.proofs.Common.{rules, ◌≡◌, ◌-◌, ◌*◌, ◌/◌, ◌^◌, length, drop, sym, refl, ap₂, ◌∙◌, subst, arith}
+use Rattle.std.proofs.lemmas.List.{length_push}
+use lib.Bits.{bit_xor}
+use Rattle.bits.specs.Gf2.{comb, dot, rows, value}
+use Rattle.cipher.specs.Places.{constant_at}
+use Rattle.cipher.proofs.Passes.{next_zero}
+use Rattle.bits.specs.Matrices.{rows_in}
+use Rattle.bits.proofs.RowLoops.{length_row_words, numbered_end, numbered_turn, row_length}
+use Rattle.bits.proofs.Vectors.{value_cleared}
 use Rattle.cipher.proofs.Sums.{comb_end, comb_more, comb_start}
 use Rattle.cipher.proofs.inverse.combine.Goals as goal
 
+pub loop-i-init-derived : goal.loop-i-init-derived
+loop-i-init-derived c = let n = length_row_words c.rows.result.width c.rows.result.left c.rows.result.words.now in search (rules, n)
+
 pub loop-i-init : goal.loop-i-init
 loop-i-init c =
-    comb_start (length c.args.sum.now) c.args.count c.args.at (value c.args.pick.now) (value c.fill.new.self) c.args.words.now
-    (value_cleared c.fill.new.self (λ k h. c.fill.ensures.clones k 0 (omega (arith, h, c.fill.ensures.len)) refl))
+    let m = c.args.m in
+    comb_start m.width m.height (value c.args.pick.now) (value c.fill.new.self) m.words.now (value_cleared c.fill.new.self (λ k h. c.fill.ensures.clones k 0 (omega (arith, h, c.fill.ensures.len)) refl))
 
-pub overflow_add-start : goal.overflow_add-start
-overflow_add-start c = omega (arith, row_ends c.loop-i.i c.args.count (length c.args.sum.now) (omega arith))
-
-pub overflow_add-start-in-loop-i : goal.overflow_add-start-in-loop-i
-overflow_add-start-in-loop-i c = omega (arith, row_ends c.loop-i.i c.args.count (length c.args.sum.now) (omega arith))
-
-pub offset_bounds-words-start : goal.offset_bounds-words-start
-offset_bounds-words-start c = omega (arith, row_ends c.loop-i.i c.args.count (length c.args.sum.now) (omega arith))
-
-pub slice_bounds-add_picked-end : goal.slice_bounds-add_picked-end
-slice_bounds-add_picked-end c = omega (arith, row_ends c.loop-i.i c.args.count (length c.args.sum.now) (omega arith))
+pub add_picked-requires : goal.add_picked-requires
+add_picked-requires c =
+    let m = c.args.m in
+    let t = numbered_turn m.width m.height m.words.now c.into_iter-i-iterator.result c.loop-i.i-iterator c.next.new.self c.loop-i.yielded _ (cc) (cc) c.loop-i.yielded_by c.next.ensures.steps (c.in-Some.i, c.in-Some.row) c.in-Some.is in
+    let size : length c.in-Some.row.now ≡ m.width = row_length m.width m.height m.words.now (length c.loop-i.yielded) c.in-Some.row.now m.fits t.0 t.2 in
+    omega (arith, size, c.requires)
 
 pub loop-i-preserved : goal.loop-i-preserved
 loop-i-preserved c =
-    let w = length c.args.sum.now in
-    comb_more w c.args.count c.loop-i.i (c.args.at + c.loop-i.i * w) _ (value c.args.pick.now) (value c.loop-i.sum) (value c.add_picked.new.sum) _ c.args.words.now
-    (omega arith) (next c.args.at c.loop-i.i w) c.add_picked.ensures c.loop-i.invariant
+    let m = c.args.m in
+    let t = numbered_turn m.width m.height m.words.now c.into_iter-i-iterator.result c.loop-i.i-iterator c.next.new.self c.loop-i.yielded _ (cc) (cc) c.loop-i.yielded_by c.next.ensures.steps (c.in-Some.i, c.in-Some.row) c.in-Some.is in
+    let k = length c.loop-i.yielded in
+    let w = m.width in
+    let ws = m.words.now in
+    let here : value c.add_picked.new.sum ≡ bit_xor (value c.loop-i.sum) (dot (2 ^ k) (value c.args.pick.now) * constant_at w (k * w) ws) =
+    c.add_picked.ensures ∙ ap₂ (λ i xs. bit_xor (value c.loop-i.sum) (dot (2 ^ i) (value c.args.pick.now) * value xs)) t.1 t.2 in
+    subst (λ n. bit_xor (value c.add_picked.new.sum) (comb (rows w (m.height - n) (drop (n * w) ws)) (value c.args.pick.now / 2 ^ n)) ≡ comb (rows_in m) (value c.args.pick.now))
+    (sym (length_push c.loop-i.yielded (c.in-Some.i, c.in-Some.row)))
+    (comb_more w m.height k (k * w) _ (value c.args.pick.now) (value c.loop-i.sum) (value c.add_picked.new.sum) _ ws t.0 (next_zero k w) here c.loop-i.invariant)
 
 pub returns : goal.returns
 returns c =
-    let w = length c.args.sum.now in
-    comb_end w c.args.count c.loop-i.i (c.args.at + c.loop-i.i * w) (value c.args.pick.now / 2 ^ c.loop-i.i) (value c.loop-i.sum) _ c.args.words.now (omega arith) c.loop-i.invariant
+    let m = c.args.m in
+    let e = numbered_end m.width m.height m.words.now c.into_iter-i-iterator.result c.loop-i.i-iterator c.next.new.self c.loop-i.yielded _ (cc) (cc) c.loop-i.yielded_by c.next.ensures.steps c.in-None.is in
+    comb_end m.width m.height (length c.loop-i.yielded) (length c.loop-i.yielded * m.width) (value c.args.pick.now / 2 ^ length c.loop-i.yielded) (value c.loop-i.sum) _ m.words.now (omega (arith, e)) c.loop-i.invariant

@@ -7,5 +7,6 @@ use Rattle.cipher.proofs.inverse.first_wrong.Given as goal
 -- the rounds that are left decide
 abbrev pub invariant-loop-i : goal.invariant-loop-i
 invariant-loop-i l =
-    first_wrong_of l.p.n (l.i + 1) (inverses_left l.p l.words l.i) (layers_left l.p l.words l.i)
-    ≡ first_wrong_of l.p.n 1 (inverses_in l.p l.words) (set_in l.p l.words).layers
+    let p = l.fn.set.params in
+    let ws = l.fn.set.words.now in
+    first_wrong_of p.n (l.i + 1) (inverses_left p ws l.i) (layers_left p ws l.i) ≡ first_wrong_of p.n 1 (inverses_in p ws) (set_in p ws).layers

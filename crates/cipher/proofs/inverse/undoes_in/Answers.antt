@@ -1,27 +1,52 @@
-use Rattle.std.proofs.Common.{◌+◌, ◌*◌, length, arith}
-use Rattle.bits.proofs.Vectors.{row_ends}
-use Rattle.cipher.specs.Places.{matrix_at}
-use Rattle.cipher.proofs.Passes.{next}
-use Rattle.cipher.proofs.Sums.{row_is, same_more, same_not}
+use Rattle.std.proofs.Common.{rules, eqb, ◌≡◌, ◌-◌, ◌*◌, ◌^◌, length, drop, sym, ap₂, ◌∙◌, subst, arith}
+use Rattle.std.proofs.lemmas.List.{length_push}
+use Rattle.bits.specs.Gf2.{comb, rows, value}
+use Rattle.cipher.specs.Instances.{same, times, units}
+use Rattle.cipher.specs.Places.{constant_at}
+use Rattle.cipher.proofs.Passes.{next_zero}
+use Rattle.bits.specs.Matrices.{rows_in}
+use Rattle.bits.proofs.RowLoops.{length_row_words, numbered_end, numbered_turn}
+use Rattle.cipher.proofs.Sums.{same_end, same_more, same_not, same_start}
 use Rattle.cipher.proofs.inverse.undoes_in.Goals as goal
 
-pub slice_bounds-row_stands-end : goal.slice_bounds-row_stands-end
-slice_bounds-row_stands-end c = omega (arith, row_ends c.loop-j.j c.args.n (length c.args.sum.now) (omega arith))
+pub loop-j-init-derived : goal.loop-j-init-derived
+loop-j-init-derived c = let n = length_row_words c.rows.result.width c.rows.result.left c.rows.result.words.now in search (rules, n)
+
+pub row_stands-requires-clause-place : goal.row_stands-requires-clause-place
+row_stands-requires-clause-place c =
+    let m = c.args.inverse in
+    let t = numbered_turn m.width m.height m.words.now c.into_iter-j-iterator.result c.loop-j.j-iterator c.next.new.self c.loop-j.yielded _ (cc) (cc) c.loop-j.yielded_by c.next.ensures.steps (c.in-Some.j, c.in-Some.row) c.in-Some.is in
+    omega (arith, t.0, t.1, c.requires.tall)
+
+pub loop-j-init : goal.loop-j-init
+loop-j-init c = let m = c.args.inverse in same_start m.width m.height m.words.now (rows_in c.args.layer)
 
 pub returns-then-not-row_stands : goal.returns-then-not-row_stands
 returns-then-not-row_stands c =
-    let w = length c.args.sum.now in
-    let ws = c.args.words.now in
-    let a = c.args.inverse + c.loop-j.j * w in
-    let ends = row_ends c.loop-j.j c.args.n w (omega arith) in
-    same_not w c.args.n ws (matrix_at w c.args.n c.args.layer ws) c.loop-j.j a c.row_stands.result _ (omega arith)
-    (row_is w c.args.n a c.args.layer c.loop-j.j ws c.row_stands.result (omega arith) c.row_stands.ensures) c.if-not-row_stands.true c.loop-j.invariant
+    let m = c.args.inverse in
+    let t = numbered_turn m.width m.height m.words.now c.into_iter-j-iterator.result c.loop-j.j-iterator c.next.new.self c.loop-j.yielded _ (cc) (cc) c.loop-j.yielded_by c.next.ensures.steps (c.in-Some.j, c.in-Some.row) c.in-Some.is in
+    let k = length c.loop-j.yielded in
+    let w = m.width in
+    let ws = m.words.now in
+    let L = rows_in c.args.layer in
+    let here : c.row_stands.result ≡ eqb (comb L (constant_at w (k * w) ws)) (2 ^ k) = c.row_stands.ensures ∙ ap₂ (λ xs i. eqb (comb L (value xs)) (2 ^ i)) t.2 t.1 in
+    same_not w m.height ws L k (k * w) c.row_stands.result _ t.0 here c.if-not-row_stands.true c.loop-j.invariant
 
 pub loop-j-preserved : goal.loop-j-preserved
 loop-j-preserved c =
-    let w = length c.args.sum.now in
-    let ws = c.args.words.now in
-    let a = c.args.inverse + c.loop-j.j * w in
-    let ends = row_ends c.loop-j.j c.args.n w (omega arith) in
-    same_more w c.args.n ws (matrix_at w c.args.n c.args.layer ws) c.loop-j.j a _ c.row_stands.result _ (omega arith) (next c.args.inverse c.loop-j.j w)
-    (row_is w c.args.n a c.args.layer c.loop-j.j ws c.row_stands.result (omega arith) c.row_stands.ensures) c.if-not-row_stands.false c.loop-j.invariant
+    let m = c.args.inverse in
+    let t = numbered_turn m.width m.height m.words.now c.into_iter-j-iterator.result c.loop-j.j-iterator c.next.new.self c.loop-j.yielded _ (cc) (cc) c.loop-j.yielded_by c.next.ensures.steps (c.in-Some.j, c.in-Some.row) c.in-Some.is in
+    let k = length c.loop-j.yielded in
+    let w = m.width in
+    let ws = m.words.now in
+    let L = rows_in c.args.layer in
+    let here : c.row_stands.result ≡ eqb (comb L (constant_at w (k * w) ws)) (2 ^ k) = c.row_stands.ensures ∙ ap₂ (λ xs i. eqb (comb L (value xs)) (2 ^ i)) t.2 t.1 in
+    subst (λ n. same (times (rows w (m.height - n) (drop (n * w) ws)) L) (units (2 ^ n) (m.height - n)) ≡ same (times (rows_in m) L) (units 1 m.height))
+    (sym (length_push c.loop-j.yielded (c.in-Some.j, c.in-Some.row)))
+    (same_more w m.height ws L k (k * w) _ c.row_stands.result _ t.0 (next_zero k w) here c.if-not-row_stands.false c.loop-j.invariant)
+
+pub returns : goal.returns
+returns c =
+    let m = c.args.inverse in
+    let e = numbered_end m.width m.height m.words.now c.into_iter-j-iterator.result c.loop-j.j-iterator c.next.new.self c.loop-j.yielded _ (cc) (cc) c.loop-j.yielded_by c.next.ensures.steps c.in-None.is in
+    same_end m.width m.height (length c.loop-j.yielded) (length c.loop-j.yielded * m.width) m.words.now (rows_in c.args.layer) _ e c.loop-j.invariant

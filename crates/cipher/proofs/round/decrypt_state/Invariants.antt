@@ -7,5 +7,6 @@ use Rattle.cipher.proofs.round.decrypt_state.Given as goal
 -- the last i rounds are undone
 abbrev pub invariant-loop-i : goal.invariant-loop-i
 invariant-loop-i l =
-    value l.state
-    ≡ unrounds l.p.m (value l.key) (layers_left l.p l.words (l.r - l.i)) (constants_left l.p l.words (l.r - l.i)) (keys_left l.p l.words (l.r - l.i)) (value l.initial.state)
+    let p = l.fn.set.params in
+    let ws = l.fn.set.words.now in
+    value l.state ≡ unrounds p.m (value l.key) (layers_left p ws (p.r - l.i)) (constants_left p ws (p.r - l.i)) (keys_left p ws (p.r - l.i)) (value l.initial.state)

@@ -7,5 +7,7 @@ use Rattle.cipher.proofs.round.encrypt_state.Given as goal
 -- the rounds that are left lead to what all of them lead to
 abbrev pub invariant-loop-i : goal.invariant-loop-i
 invariant-loop-i l =
-    rounds l.p.m (value l.key) (layers_left l.p l.words l.i) (constants_left l.p l.words l.i) (keys_left l.p l.words l.i) (value l.state)
-    ≡ rounds l.p.m (value l.key) (layers_left l.p l.words 0) (constants_left l.p l.words 0) (keys_left l.p l.words 0) (value l.initial.state)
+    let p = l.fn.set.params in
+    let ws = l.fn.set.words.now in
+    rounds p.m (value l.key) (layers_left p ws l.i) (constants_left p ws l.i) (keys_left p ws l.i) (value l.state)
+    ≡ rounds p.m (value l.key) (layers_left p ws 0) (constants_left p ws 0) (keys_left p ws 0) (value l.initial.state)

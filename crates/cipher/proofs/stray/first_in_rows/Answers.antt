@@ -1,40 +1,78 @@
-use Rattle.std.proofs.Common.{◌+◌, ◌*◌, ◌≤◌, length, arith}
+use Rattle.std.proofs.Common.{rules, zero-mul, Some, None, ◌≡◌, ◌+◌, ◌-◌, ◌*◌, ◌≤◌, length, drop, sym, ap, ap₂, ◌∙◌, subst, arith}
+use Rattle.std.proofs.lemmas.List.{length_push}
+use Rattle.cipher.specs.Instances.{first_stray_of, many_limits}
+use Rattle.cipher.proofs.Passes.{next_zero}
+use Rattle.bits.proofs.RowLoops.{length_row_words, numbered_end, numbered_turn}
 use Rattle.bits.proofs.Vectors.{row_ends}
-use Rattle.cipher.proofs.Passes.{next}
-use Rattle.cipher.proofs.Strays.{row_inside, rows_end, rows_here, rows_more}
+use Rattle.cipher.proofs.Strays.{row_inside, row_seen, rows_end, rows_here, rows_more}
 use Rattle.cipher.proofs.stray.first_in_rows.Goals as goal
 
-pub overflow_add-start : goal.overflow_add-start
-overflow_add-start c = omega (arith, row_ends c.loop-j.j c.args.count c.args.w (omega arith))
+pub loop-j-init-derived : goal.loop-j-init-derived
+loop-j-init-derived c = let n = length_row_words c.rows.result.width c.rows.result.left c.rows.result.words.now in search (rules, n)
 
-pub overflow_add-start-in-loop-j : goal.overflow_add-start-in-loop-j
-overflow_add-start-in-loop-j c = omega (arith, row_ends c.loop-j.j c.args.count c.args.w (omega arith))
+pub loop-j-init : goal.loop-j-init
+loop-j-init c =
+    let m = c.args.m in
+    let d : m.height - 0 ≡ m.height = omega arith in
+    ap₂ (λ k a. first_stray_of a (many_limits m.width c.args.bits k) (drop a m.words.now)) d (zero-mul m.width)
 
-pub offset_bounds-words-start : goal.offset_bounds-words-start
-offset_bounds-words-start c = omega (arith, row_ends c.loop-j.j c.args.count c.args.w (omega arith))
-
-pub slice_bounds-first_stray-end : goal.slice_bounds-first_stray-end
-slice_bounds-first_stray-end c = omega (arith, row_ends c.loop-j.j c.args.count c.args.w (omega arith))
+pub overflow_mul-result : goal.overflow_mul-result
+overflow_mul-result c =
+    let m = c.args.m in
+    let t = numbered_turn m.width m.height m.words.now c.into_iter-j-iterator.result c.loop-j.j-iterator c.next.new.self c.loop-j.yielded _ (cc) (cc) c.loop-j.yielded_by c.next.ensures.steps (c.in-Some.j, c.in-Some.row) c.in-Some.is in
+    let k = length c.loop-j.yielded in
+    let w = m.width in
+    let ws = m.words.now in
+    let ends = row_ends k m.height w t.0 in
+    let room : k * w + w ≤ length ws = omega (arith, ends, m.fits) in
+    let at : c.in-Some.j * w ≡ k * w = ap (λ i. i * w) t.1 in
+    let seen = row_seen w c.args.bits (k * w) ws c.in-Some.row.now _ t.2 c.in-Some-first_stray.ensures in
+    omega (arith, at, room, row_inside w c.args.bits (k * w) ws room c.in-Some-first_stray.i seen)
 
 pub overflow_add-result : goal.overflow_add-result
 overflow_add-result c =
-    let a = c.args.at + c.loop-j.j * c.args.w in
-    let ends = row_ends c.loop-j.j c.args.count c.args.w (omega arith) in
-    let room : a + c.args.w ≤ length c.args.words.now = omega arith in
-    omega (arith, row_inside c.args.w c.args.bits a c.args.words.now room c.in-Some.i c.in-Some.ensures)
+    let m = c.args.m in
+    let t = numbered_turn m.width m.height m.words.now c.into_iter-j-iterator.result c.loop-j.j-iterator c.next.new.self c.loop-j.yielded _ (cc) (cc) c.loop-j.yielded_by c.next.ensures.steps (c.in-Some.j, c.in-Some.row) c.in-Some.is in
+    let k = length c.loop-j.yielded in
+    let w = m.width in
+    let ws = m.words.now in
+    let ends = row_ends k m.height w t.0 in
+    let room : k * w + w ≤ length ws = omega (arith, ends, m.fits) in
+    let at : c.in-Some.j * w ≡ k * w = ap (λ i. i * w) t.1 in
+    let seen = row_seen w c.args.bits (k * w) ws c.in-Some.row.now _ t.2 c.in-Some-first_stray.ensures in
+    omega (arith, at, room, row_inside w c.args.bits (k * w) ws room c.in-Some-first_stray.i seen)
 
-pub returns-in-Some : goal.returns-in-Some
-returns-in-Some c =
-    let a = c.args.at + c.loop-j.j * c.args.w in
-    let ends = row_ends c.loop-j.j c.args.count c.args.w (omega arith) in
-    rows_here c.args.w c.args.bits a c.args.words.now (omega arith) c.loop-j.j c.args.count c.in-Some.i _ (omega arith) c.in-Some.ensures c.loop-j.invariant
+pub returns-in-Some-first_stray : goal.returns-in-Some-first_stray
+returns-in-Some-first_stray c =
+    let m = c.args.m in
+    let t = numbered_turn m.width m.height m.words.now c.into_iter-j-iterator.result c.loop-j.j-iterator c.next.new.self c.loop-j.yielded _ (cc) (cc) c.loop-j.yielded_by c.next.ensures.steps (c.in-Some.j, c.in-Some.row) c.in-Some.is in
+    let k = length c.loop-j.yielded in
+    let w = m.width in
+    let ws = m.words.now in
+    let ends = row_ends k m.height w t.0 in
+    let room : k * w + w ≤ length ws = omega (arith, ends, m.fits) in
+    let at : c.in-Some.j * w ≡ k * w = ap (λ i. i * w) t.1 in
+    let seen = row_seen w c.args.bits (k * w) ws c.in-Some.row.now _ t.2 c.in-Some-first_stray.ensures in
+    ap (λ i. Some (i + c.in-Some-first_stray.i)) at
+    ∙ rows_here w c.args.bits (k * w) ws room k m.height c.in-Some-first_stray.i _ t.0 seen c.loop-j.invariant
 
 pub loop-j-preserved : goal.loop-j-preserved
 loop-j-preserved c =
-    let a = c.args.at + c.loop-j.j * c.args.w in
-    let ends = row_ends c.loop-j.j c.args.count c.args.w (omega arith) in
-    rows_more c.args.w c.args.bits a c.args.words.now (omega arith) c.loop-j.j c.args.count _ _ (omega arith) (next c.args.at c.loop-j.j c.args.w)
-    c.in_default.ensures c.loop-j.invariant
+    let m = c.args.m in
+    let t = numbered_turn m.width m.height m.words.now c.into_iter-j-iterator.result c.loop-j.j-iterator c.next.new.self c.loop-j.yielded _ (cc) (cc) c.loop-j.yielded_by c.next.ensures.steps (c.in-Some.j, c.in-Some.row) c.in-Some.is in
+    let k = length c.loop-j.yielded in
+    let w = m.width in
+    let ws = m.words.now in
+    let ends = row_ends k m.height w t.0 in
+    let room : k * w + w ≤ length ws = omega (arith, ends, m.fits) in
+    let at : c.in-Some.j * w ≡ k * w = ap (λ i. i * w) t.1 in
+    let seen = row_seen w c.args.bits (k * w) ws c.in-Some.row.now None t.2 c.in_default.ensures in
+    subst (λ n. first_stray_of (n * w) (many_limits w c.args.bits (m.height - n)) (drop (n * w) ws) ≡ first_stray_of 0 (many_limits w c.args.bits m.height) ws)
+    (sym (length_push c.loop-j.yielded (c.in-Some.j, c.in-Some.row)))
+    (rows_more w c.args.bits (k * w) ws room k m.height _ _ t.0 (next_zero k w) seen c.loop-j.invariant)
 
 pub returns : goal.returns
-returns c = rows_end c.args.w c.args.bits (c.args.at + c.loop-j.j * c.args.w) c.args.words.now c.loop-j.j c.args.count _ (omega arith) c.loop-j.invariant
+returns c =
+    let m = c.args.m in
+    let e = numbered_end m.width m.height m.words.now c.into_iter-j-iterator.result c.loop-j.j-iterator c.next.new.self c.loop-j.yielded _ (cc) (cc) c.loop-j.yielded_by c.next.ensures.steps c.in-None.is in
+    rows_end m.width c.args.bits (length c.loop-j.yielded * m.width) m.words.now (length c.loop-j.yielded) m.height _ (omega (arith, e)) c.loop-j.invariant

@@ -1,7 +1,5 @@
-use Rattle.cipher.proofs.Opened.{params_held, sound_held}
+use Rattle.cipher.proofs.SoundSets.{sound_held}
 use Rattle.cipher.proofs.instance.Instance.params.Goals as goal
 
-pub returns : goal.returns
-returns c =
-    let i = c.args.self.now in
-    record { value = params_held i.params i.words.now; sound = sound_held i.params i.words.now i.passed }
+pub returns-clause-sound : goal.returns-clause-sound
+returns-clause-sound c = sound_held c.args.self.now.opened

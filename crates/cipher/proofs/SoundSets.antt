@@ -16,7 +16,10 @@ use Rattle.cipher.specs.Parameters.{Lawful, block_words_of, key_words_of, prepar
 use Rattle.cipher.specs.Sets.{Each, LawfulSet, Matrix}
 use Rattle.cipher.specs.Laws.{Invertible}
 use Rattle.cipher.specs.Instances.{constants_place, first_stray_of, first_wrong_of, inverses_place, inverses_in, keys_place, matrices_in, opening, same, set_in, stray_at, times, units, word_limits, wrong_at}
-use Rattle.cipher.specs.Sound.{Sound, TrueInverses, held_of, params_in, passes}
+use Rattle.std.specs.Option.{option_map}
+use Rattle.cipher.specs.declared.opened.Opened.{Opened}
+use Rattle.cipher.specs.Held.{held_in}
+use Rattle.cipher.specs.Sound.{Sound, TrueInverses, params_in}
 use Rattle.cipher.proofs.Bounds.{small}
 use Rattle.cipher.proofs.Limits.{limits_facts}
 use Rattle.cipher.proofs.Passes.{length_matrices}
@@ -153,10 +156,10 @@ opening_sound p ws e =
 
 -- ---- an instance
 
-pub params_held : (o : Option Params) (ws : List ℕ) → o ≡ params_in (held_of o ws)
-params_held None ws = refl
-params_held (Some p) ws = refl
+pub params_held : (o : Option Opened) → option_map (λ (x : Opened). x.set.params) o ≡ params_in (held_in o)
+params_held None = refl
+params_held (Some x) = refl
 
-pub sound_held : (o : Option Params) (ws : List ℕ) → passes (held_of o ws) ≡ true → Sound (held_of o ws)
-sound_held None ws e = tt
-sound_held (Some p) ws e = opening_sound p ws e
+pub sound_held : (o : Option Opened) → Sound (held_in o)
+sound_held None = tt
+sound_held (Some x) = opening_sound x.set.params x.set.words.now x.passed
