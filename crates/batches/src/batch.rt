@@ -171,26 +171,21 @@ fn run_batch<E: Engine>(
     ensures leaves { Leaves E.means (held_by held.now) result (E.acct engine.old) (E.acct engine.new) cells.old cells.new }
     ensures stays { is_ok result ≡ false → engine.new ≡ engine.old }
 {
-    match held.held() {
-        None => {
-            return Err(Fault::at(Refusal::NoInstance, Layer::Batch, 0));
-        }
-        Some((p, words)) => {
-            let account = engine.account();
-            check_batch(
-                p,
-                E::lanes_of(),
-                account,
-                count,
-                blocks,
-                keys,
-                masks.len(),
-                cells.len(),
-            )?;
-            run_accepted(way, engine, words, p, count, blocks, keys, masks, cells);
-            return Ok(());
-        }
-    }
+    let Some((p, words)) = held.held() else {
+        return Err(Fault::at(Refusal::NoInstance, Layer::Batch, 0));
+    };
+    check_batch(
+        p,
+        E::lanes_of(),
+        engine.account(),
+        count,
+        blocks,
+        keys,
+        masks.len(),
+        cells.len(),
+    )?;
+    run_accepted(way, engine, words, p, count, blocks, keys, masks, cells);
+    Ok(())
 }
 
 // Encrypts `count` blocks in place, block j under key j. It spends the gates of one block, whatever the count, and leaves the cells that it used

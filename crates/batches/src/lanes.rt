@@ -34,8 +34,8 @@ pub(crate) fn load<E: Engine>(
     requires masks { length cells.old ≤ length masks.now }
     ensures { map E.means cells.new ≡ columns (length cells.old) (rows w count blocks.now) }
 {
-    for i in 0..cells.len() {
-        cells[i] = e.enter(gather(blocks, w, count, i), masks[i]);
+    for (i, cell) in cells.iter_mut().enumerate() {
+        *cell = e.enter(gather(blocks, w, count, i), masks[i]);
     }
 }
 
@@ -46,8 +46,8 @@ fn read_lane<E: Engine>(e: &E, cells: &[E::Wire], j: usize, block: &mut [u64])
     ensures { value block.new ≡ lane j (map E.means cells.now) }
 {
     block.fill(0);
-    for i in 0..cells.len() {
-        let on = (e.read(cells[i]) >> j) % 2;
+    for (i, cell) in cells.iter().enumerate() {
+        let on = (e.read(*cell) >> j) % 2;
         block[i / 64] |= on << (i % 64);
     }
 }
@@ -65,6 +65,7 @@ pub(crate) fn unload<E: Engine>(
     requires room { length cells.now ≤ 64 * w }
     ensures { blocks.new ≡ flat w (columns count (map E.means cells.now)) }
 {
+    // By index, since what is written through `chunks_exact_mut` is lost to the proof.
     for j in 0..count {
         let start = j * w;
         read_lane(e, cells, j, &mut blocks[start..start + w]);

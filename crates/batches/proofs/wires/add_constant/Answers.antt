@@ -19,7 +19,7 @@ loop-i-preserved g c j h =
     let x = value c.args.constant.now in
     let hx : i < length xs = omega arith in
     constant_more m.means xs i c.add.result hx x (m.means c.enter-c.result) j (lane j (map m.means c.args.to.now))
-    (c.add.ensures ∙ ap (λ y. bit_xor y (m.means c.enter-c.result)) (read_map m.means xs i _ hx c.index-to-i.is))
+    (c.add.ensures ∙ ap (λ y. bit_xor y (m.means c.enter-c.result)) (ap m.means (sym c.index-to-i.is) ∙ read_map m.means xs i _ hx c.index-to-i.is))
     (spread_bit m.lanes j _ _ (dot_below (2 ^ i) x) h m.few.1 (c.enter-c.ensures ∙ ap (λ y. y % 2 ^ m.lanes) c.spread.ensures))
     (c.loop-i.invariant j h)
 

@@ -1,4 +1,4 @@
-use Rattle.std.proofs.Common.{◌≡◌, ℕ, ◌+◌, ◌*◌, ◌/◌, ◌%◌, ◌^◌, ◌<◌, ◌≤◌, map, length, get_or, drop, ap, ◌∙◌, ap₂, mod-lt, arith, pow_pos}
+use Rattle.std.proofs.Common.{◌≡◌, ℕ, ◌+◌, ◌*◌, ◌/◌, ◌%◌, ◌^◌, ◌<◌, ◌≤◌, map, length, get_or, drop, sym, ap, ◌∙◌, ap₂, mod-lt, arith, pow_pos}
 use lib.Bits.{bit_xor}
 use Rattle.std.proofs.lemmas.Nat.{shl_whole}
 use Rattle.bits.specs.Gauss.{row_at}
@@ -48,7 +48,7 @@ loop-i-preserved g c =
     ∙ group_bits ws at w i b q k (length from) (λ j. omega (arith, c.type_inv.words j)) (omega arith) c.requires.fits whole (some_groups b q whole) (omega (arith, p, c.requires.place)) in
     let few : row_at w (drop at ws) i / 2 ^ (b * k) % 2 ^ b < 2 ^ b = mod-lt _ (pow_pos b) in
     group_step m xs from i c.add.result (λ j. bit_xor (get_or (map m from) j 0) (get_or (map m sums) (row_at w (drop at ws) j / 2 ^ (b * k) % 2 ^ b) 0)) lt c.loop-i.invariant.0 c.loop-i.invariant.1
-    (c.add.ensures ∙ ap₂ bit_xor (same_past m xs from i _ lt c.index-to-i.is c.loop-i.invariant.1)
+    (c.add.ensures ∙ ap₂ bit_xor (ap m (sym c.index-to-i.is) ∙ same_past m xs from i _ lt c.index-to-i.is c.loop-i.invariant.1)
     (read_map m sums pick _ (omega (arith, is, few, c.requires.room)) c.index-sums-pick.is ∙ ap (λ p. get_or (map m sums) p 0) is))
 
 pub returns : goal.returns

@@ -19,7 +19,7 @@ loop-i-preserved g c v =
     let hy : i < length ys = omega arith in
     let n : length (map m ys) ≡ length ys = length-map ys m in
     wires_more m xs i c.add.result hx (map m ys) v (mul (map m c.args.to.now) v) (omega arith)
-    (c.add.ensures ∙ ap₂ bit_xor (read_map m xs i _ hx c.index-to-i.is) (read_map m ys i _ hy c.index-from-i.is)) (c.loop-i.invariant v)
+    (c.add.ensures ∙ ap₂ bit_xor (ap m (sym c.index-to-i.is) ∙ read_map m xs i _ hx c.index-to-i.is) (read_map m ys i _ hy c.index-from-i.is)) (c.loop-i.invariant v)
 
 pub returns : goal.returns
 returns g c v =
