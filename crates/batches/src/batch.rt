@@ -155,8 +155,8 @@ fn run_accepted<E: Engine>(
     clear(e, &mut cells[..used]);
 }
 
-// A batch in either direction.
-fn run_batch<E: Engine>(
+// A batch in either direction, with the promises of `encrypt` and `decrypt`.
+pub fn run_batch<E: Engine>(
     way: Direction,
     engine: &mut E,
     held: &Instance,
