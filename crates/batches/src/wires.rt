@@ -89,8 +89,8 @@ pub(crate) fn product<E: Engine>(
 {
     clear(e, to);
     let b = group_size(sums.len());
-    for g in 0..from.len().div_ceil(b) {
-        sum_ways(e, &from[b * g..], b, sums);
+    for (g, wires) in from.chunks(b).enumerate() {
+        sum_ways(e, wires, b, sums);
         add_group(e, words, at, w, b, g, sums, to);
     }
 }
