@@ -6,11 +6,6 @@ use Rattle.batches.proofs.gates.substitute.Goals as goal
 pub loop-t-init : goal.loop-t-init
 loop-t-init g c = ((λ j. along_none c.args.way _), search rules)
 
-pub substitute_triple-requires : goal.substitute_triple-requires
-substitute_triple-requires g c =
-    let s = c.loop-t.invariant.1 in
-    record { place = omega arith; gates = omega (arith, s.done, s.granted, c.requires.gates) }
-
 pub loop-t-preserved : goal.loop-t-preserved
 loop-t-preserved g c =
     let m = g.E.Engine.means in

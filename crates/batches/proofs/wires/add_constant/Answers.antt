@@ -1,15 +1,10 @@
 use Rattle.std.proofs.Common.{◌≡◌, ◌%◌, ◌^◌, ◌<◌, map, length, sym, ap, ◌∙◌, mod-eq_of_lt, arith}
-use lib.Bits.{bit_xor, xor_zero_r}
+use lib.Bits.{bit_xor}
 use Rattle.bits.specs.Gf2.{value}
 use Rattle.bits.proofs.Products.{dot_below}
 use Rattle.batches.specs.Lanes.{lane}
 use Rattle.batches.proofs.Packing.{constant_more, read_map, spread_bit}
 use Rattle.batches.proofs.wires.add_constant.Goals as goal
-
-pub loop-i-init : goal.loop-i-init
-loop-i-init g c j h =
-    let z : value c.args.constant.now % 2 ^ 0 ≡ 0 = omega arith in
-    sym (ap (bit_xor _) z ∙ xor_zero_r _)
 
 pub loop-i-preserved : goal.loop-i-preserved
 loop-i-preserved g c j h =

@@ -1,4 +1,4 @@
-use Rattle.std.proofs.Common.{◌≡◌, ◌+◌, ◌*◌, ◌/◌, ◌%◌, ◌^◌, ◌<◌, min, ◌++◌, map, length, get_or, drop, replicate, sym, ap, ◌∙◌, ap₂, mul-zero, arith, length-drop}
+use Rattle.std.proofs.Common.{◌≡◌, ◌+◌, ◌*◌, ◌/◌, ◌%◌, ◌^◌, min, ◌++◌, map, length, get_or, drop, replicate, sym, ap, ◌∙◌, ap₂, mul-zero, arith, length-drop}
 use lib.Bits.{bit_xor}
 use lib.ListN.{length-map}
 use Rattle.std.specs.Slice.Iter.{chunks_rest, chunks_size}
@@ -27,14 +27,6 @@ loop-g-init g c =
           c.clear.ensures ∙ ap (λ k. replicate k 0) (sym c.clear.auto.cells) ∙ none_picked n w b ws ms
           ∙ ap (λ k. table n (λ i. comb ms (row_at w ws i % 2 ^ (b * k)))) (sym none);
     }
-
-pub add_group-requires-clause-place : goal.add_group-requires-clause-place
-add_group-requires-clause-place g c =
-    let b = c.group_size-b.result in
-    let s = c.in-Some.ensures.steps in
-    let k = enumerate_count c.loop-g.g-iterator in
-    let some : 0 < length (drop (b * k) c.args.from.now) = omega (arith, s.0.1.2, ap length c.loop-g.invariant.left) in
-    omega (arith, some, length-drop (b * k) c.args.from.now, ap (λ i. b * i) s.1, c.requires.wide)
 
 pub loop-g-preserved : goal.loop-g-preserved
 loop-g-preserved g c =

@@ -37,6 +37,3 @@ loop-t-preserved g c =
     (λ s l. read_other m xs t s c.add.result (omega arith) ∙ c.loop-t.invariant s l)
     (read_set m xs t t c.add.result long refl ∙ c.add.ensures
     ∙ ways_more b t u _ _ ms h.power_le high e (read_map m xs u _ (omega (arith, low, long)) c.index-sums-t.is ∙ c.loop-t.invariant u low) c.wire_at.ensures)
-
-pub returns : goal.returns
-returns g c t h = c.loop-t.invariant t (omega (arith, h, (ways c.args.b c.requires.few).0, c.loop-t-test.false))
