@@ -5,7 +5,7 @@ use native.Mathlib.Nat.{add-mul-mod_self_left, div-add-mod, mod-add-div}
 use lib.Bits.{bit_or, bit_xor, or_shifted_r, xor_assoc, xor_self, xor_zero_l, xor_zero_r}
 use lib.ListN.{length-map}
 use borrow.Rule.Slice.PartMut.{put_mid}
-use Rattle.std.proofs.lemmas.List.{append-nil, drop_at, map-append, nil_from_length, take_more, take_more_set, map_push, map-set, length_push, length-take-le, take_all, drop_more, drop_all, drop-drop, drop-map, drop-set-lt, get_or-drop, get_or-set_other, get_or-set_same, get_or-take, get_or-map, get_or_push, get_or_append_left, replicate_more}
+use Rattle.std.proofs.lemmas.List.{append-nil, drop_at, map-append, nil_from_length, take_more, take_more_set, map_push, map-set, length_push, length-take-le, drop_more, drop_all, drop-drop, drop-map, drop-set-lt, get_or-drop, get_or-set_other, get_or-set_same, get_or-take, get_or-map, get_or_push, get_or_append_left, replicate_more}
 use Rattle.std.proofs.lemmas.Slice.{take-put_mid_below, between-put_mid}
 use Rattle.std.proofs.lemmas.Nat.{field_of, mod-pow-add, pow-add, shl_whole, shr-shr}
 use Rattle.bits.specs.Gf2.{Below, Words, comb, dot, mul, rows, value}
@@ -142,16 +142,8 @@ module _ {X : Type 0} (f : X → ℕ) where
   fill_more xs i x g h inv e =
       ap (map f) (take_more_set xs i x h) ∙ map_push f (take i xs) x ∙ ap₂ (λ (u : List ℕ) (v : ℕ). u ++ v ∷ []) inv e ∙ sym (table_more i g)
 
-  pub filled : (xs : List X) (i n : ℕ) (g : ℕ → ℕ) → length xs ≤ i → i ≡ n → map f (take i xs) ≡ table i g → map f xs ≡ table n g
-  filled xs i n g h e inv = ap (map f) (sym (take_all i xs h)) ∙ inv ∙ ap (λ (k : ℕ). table k g) e
-
   pub read_map : (xs : List X) (i : ℕ) (x : X) → i < length xs → x ≡ get_or xs i x → f x ≡ get_or (map f xs) i 0
   read_map xs i x h e = ap f e ∙ sym (get_or-map f xs i x 0 h)
-
-  pub clear_more : (xs : List X) (i : ℕ) (x : X) → i < length xs → f x ≡ 0 → map f (take i xs) ≡ replicate i 0
-      → map f (take (i + 1) (set xs i x)) ≡ replicate (i + 1) 0
-  clear_more xs i x h e inv =
-      ap (map f) (take_more_set xs i x h) ∙ map_push f (take i xs) x ∙ ap₂ (λ (u : List ℕ) (v : ℕ). u ++ v ∷ []) inv e ∙ replicate_more i 0
 
   -- two lists that are the same from i on
   pub same_past : (xs ys : List X) (i : ℕ) (x : X) → i < length xs → x ≡ get_or xs i x → drop i xs ≡ drop i ys → f x ≡ get_or (map f ys) i 0
