@@ -29,13 +29,13 @@ pub record Admitted (lanes count : ℕ) (p : Params) (a : Account) (blocks keys 
   pub gated : gates_of p ≤ left a
 
 three_checks : (a b c : Bool) (x y z : Fault) → first_of ((a, x) ∷ (b, y) ∷ (c, z) ∷ []) ≡ Ok tt → (a ≡ false) × (b ≡ false) × (c ≡ false)
-three_checks true b c x y z e = absurd (let o : ◌≡◌ {A = ℕ} 0 1 = cc in omega arith)
-three_checks false true c x y z e = absurd (let o : ◌≡◌ {A = ℕ} 0 1 = cc in omega arith)
-three_checks false false true x y z e = absurd (let o : ◌≡◌ {A = ℕ} 0 1 = cc in omega arith)
+three_checks true b c x y z e = absurd cc
+three_checks false true c x y z e = absurd cc
+three_checks false false true x y z e = absurd cc
 three_checks false false false x y z e = (refl, refl, refl)
 
 neither : (a b : Bool) → a || b ≡ false → b ≡ false
-neither true b e = absurd (let o : ◌≡◌ {A = ℕ} 0 1 = cc in omega arith)
+neither true b e = absurd cc
 neither false b e = e
 
 pub admitted : (lanes count : ℕ) (p : Params) (ws : List ℕ) (a : Account) (blocks keys : List ℕ) (masks cells : ℕ)

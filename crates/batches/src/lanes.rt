@@ -12,6 +12,7 @@ fn gather(blocks: &[u64], w: usize, count: usize, i: usize) -> u64
     requires lanes { count ≤ 64 }
     ensures { result ≡ lane i (rows w count blocks.now) }
 {
+    // By number, since the lane is also the shift, and `chunks_exact` asks for blocks of at least a word, which is not known here.
     let mut word: u64 = 0;
     for j in 0..count {
         let start = j * w;
