@@ -1,11 +1,14 @@
 -- The S-box on the wires of a triple, lane by lane.
-use Rattle.std.proofs.Common.{◌≡◌, ℕ, ◌+◌, ◌*◌, ◌/◌, ◌%◌, ◌^◌, ◌<◌, ◌≢◌, List, map, length, get_or, set, sym, ap, ◌∙◌, ap₂, arith, length-set, get_or-set_other}
+use Rattle.std.proofs.Common.{◌≡◌, ℕ, ◌+◌, ◌*◌, ◌/◌, ◌%◌, ◌^◌, ◌<◌, ◌≢◌, List, map, length, get_or, set, sym, refl, ap, ◌∙◌, ap₂, arith, length-set, get_or-set_other}
 use lib.Bits.{bit_and, bit_xor, and_mod, and_shr, xor_assoc, xor_comm, xor_mod, xor_shr}
 use Rattle.std.proofs.lemmas.List.{map-set}
 use Rattle.bits.specs.Gf2.{dot}
 use Rattle.bits.proofs.Products.{dot_comm}
 use Rattle.bits.proofs.Rank.{dot_power}
-use Rattle.batches.specs.Lanes.{box_at, lane, unbox_at}
+use Rattle.cipher.specs.declared.direction.Direction.{Direction}
+use Rattle.cipher.specs.declared.direction.Direction.TheVariants.{Encrypt, Decrypt}
+use Rattle.cipher.proofs.Triples.{substitution_more, substitution_none, unsubstitution_more, unsubstitution_none}
+use Rattle.batches.specs.Lanes.{box_along, box_at, lane, substitution_along, unbox_at}
 use Rattle.batches.proofs.Packing.{bit_of_mul, map_mul_set}
 
 -- ---- one bit of a sum and of a product
@@ -106,3 +109,13 @@ module _ {X : Type 0} (f : X → ℕ) (xs : List X) (k : ℕ) (h : k + 2 < lengt
         let second : dot (bit_and a c) (2 ^ j) ≡ bit_and A C = and_of_bits j a c ∙ ap₂ bit_and is_a is_c in
         changed x y z (bit_xor b (bit_and b c)) (bit_and a c) (bit_xor (bit_xor a b) (bit_and a b)) j p (ey ∙ ap (λ (t : ℕ). bit_xor t (bit_and a c)) eb) (last_is z ez)
         ∙ added k s _ _ _ _ _ _ first second third
+
+-- ---- in either direction, triple by triple
+
+pub along_none : (way : Direction) (x : ℕ) → x ≡ substitution_along way 0 x
+along_none Encrypt = substitution_none
+along_none Decrypt = unsubstitution_none
+
+pub along_more : (way : Direction) (t s v : ℕ) → v ≡ substitution_along way t s → box_along way (3 * t) v ≡ substitution_along way (t + 1) s
+along_more Encrypt t s v e = substitution_more t s v _ _ _ e refl refl refl
+along_more Decrypt t s v e = unsubstitution_more t s v _ _ _ e refl refl refl

@@ -1,11 +1,11 @@
 -- Wires as rows of a matrix: the steps of the loops that pack, multiply, add and unpack.
-use Rattle.std.proofs.Common.{◌≡◌, ℕ, zero, suc, ◌+◌, ◌-◌, ◌*◌, ◌/◌, ◌%◌, ◌^◌, ◌<◌, ◌≤◌, min, ◌≢◌, List, [], ◌∷◌, ◌++◌, map, length, get_or, take, drop, set, replicate, sym, refl, ap, ◌∙◌, subst, ap₂, mod-lt, mod-eq_of_lt, mul_assoc, mul_comm, mul-le-mul_left, one-mul, pow-suc, mul-zero, zero-mul, mul-add, mul_left_comm, add-one, arith, length-drop, length-take, pow_pos, pow_mono}
+use Rattle.std.proofs.Common.{◌≡◌, ℕ, zero, suc, ◌+◌, ◌-◌, ◌*◌, ◌/◌, ◌%◌, ◌^◌, ◌<◌, ◌≤◌, min, ◌≢◌, ◌⊎◌, List, [], ◌∷◌, ◌++◌, map, length, get_or, take, drop, set, replicate, sym, refl, ap, ◌∙◌, subst, ap₂, mod-lt, mod-eq_of_lt, mul_assoc, mul_comm, mul-le-mul_left, one-mul, pow-suc, mul-zero, zero-mul, mul-add, mul_left_comm, add-one, arith, length-drop, length-take, pow_pos, pow_mono, inl, inr, length-append}
 use native.Mathlib.Decide.{dec_le, ℕ_discrete}
 use native.Mathlib.Nat.{add-mul-mod_self_left, div-add-mod, mod-add-div}
 use lib.Bits.{bit_or, bit_xor, or_shifted_r, xor_assoc, xor_self, xor_zero_l, xor_zero_r}
 use lib.ListN.{length-map}
 use borrow.Rule.Slice.PartMut.{put_mid}
-use Rattle.std.proofs.lemmas.List.{take_more, take_more_set, map_push, map-set, length_push, length-take-le, take_all, drop_more, drop_all, drop-drop, drop-map, drop-set-lt, get_or-drop, get_or-set_other, get_or-set_same, get_or-take, get_or-map, get_or_push, get_or_append_left, replicate_more}
+use Rattle.std.proofs.lemmas.List.{append-nil, drop_at, map-append, nil_from_length, take_more, take_more_set, map_push, map-set, length_push, length-take-le, drop_more, drop_all, drop-drop, drop-map, drop-set-lt, get_or-drop, get_or-set_other, get_or-set_same, get_or-take, get_or-map, get_or_push, get_or_append_left, replicate_more}
 use Rattle.std.proofs.lemmas.Slice.{take-put_mid_below, between-put_mid}
 use Rattle.std.proofs.lemmas.Nat.{field_of, mod-pow-add, pow-add, shl_whole, shr-shr}
 use Rattle.bits.specs.Gf2.{Below, Words, comb, dot, mul, rows, value}
@@ -142,16 +142,8 @@ module _ {X : Type 0} (f : X → ℕ) where
   fill_more xs i x g h inv e =
       ap (map f) (take_more_set xs i x h) ∙ map_push f (take i xs) x ∙ ap₂ (λ (u : List ℕ) (v : ℕ). u ++ v ∷ []) inv e ∙ sym (table_more i g)
 
-  pub filled : (xs : List X) (i n : ℕ) (g : ℕ → ℕ) → length xs ≤ i → i ≡ n → map f (take i xs) ≡ table i g → map f xs ≡ table n g
-  filled xs i n g h e inv = ap (map f) (sym (take_all i xs h)) ∙ inv ∙ ap (λ (k : ℕ). table k g) e
-
   pub read_map : (xs : List X) (i : ℕ) (x : X) → i < length xs → x ≡ get_or xs i x → f x ≡ get_or (map f xs) i 0
   read_map xs i x h e = ap f e ∙ sym (get_or-map f xs i x 0 h)
-
-  pub clear_more : (xs : List X) (i : ℕ) (x : X) → i < length xs → f x ≡ 0 → map f (take i xs) ≡ replicate i 0
-      → map f (take (i + 1) (set xs i x)) ≡ replicate (i + 1) 0
-  clear_more xs i x h e inv =
-      ap (map f) (take_more_set xs i x h) ∙ map_push f (take i xs) x ∙ ap₂ (λ (u : List ℕ) (v : ℕ). u ++ v ∷ []) inv e ∙ replicate_more i 0
 
   -- two lists that are the same from i on
   pub same_past : (xs ys : List X) (i : ℕ) (x : X) → i < length xs → x ≡ get_or xs i x → drop i xs ≡ drop i ys → f x ≡ get_or (map f ys) i 0
@@ -353,10 +345,6 @@ pub groups_all : (n w k : ℕ) (ws ms : List ℕ) → length ms ≤ k → table 
 groups_all n w k ws ms h =
     table_same n (λ i. comb ms (row_at w ws i % 2 ^ k)) (λ i. comb ms (row_at w ws i)) (λ i l. comb_mod k (row_at w ws i) ms h) ∙ table_rows n w (comb ms) ws
 
--- what is left of wires past the first k, as a part of a slice has it
-pub map_rest : {X : Type 0} (f : X → ℕ) (k : ℕ) (xs : List X) → map f (take (length xs - k) (drop k xs)) ≡ drop k (map f xs)
-map_rest f k xs = ap (map f) (take_all (length xs - k) (drop k xs) (simp length-drop (omega arith))) ∙ sym (drop-map f k xs)
-
 -- ---- add_wires and add_constant
 
 module _ {X : Type 0} (f : X → ℕ) (xs : List X) (k : ℕ) (x : X) (h : k < length xs) where
@@ -402,31 +390,44 @@ spread_bit lanes j d y b h few e =
     go (suc zero) l = ones_bit 64 j (omega arith)
     go (suc (suc d)) l = absurd (omega arith)
 
--- ---- groups of b, as many as n wires make
+-- ---- groups of b
 
 pub some_groups : (b c : ℕ) → b * c ≡ 64 → 0 < c
 some_groups b zero e = absurd (omega (arith, e, mul-zero b))
 some_groups b (suc c) e = omega arith
 
-pub group_within : (n b g : ℕ) → 1 ≤ b → g < n / b + min 1 (n % b) → b * g < n
-group_within n b g some h =
-    let d = div-add-mod n b in
-    elim (dec_le 1 (n % b)) [
-      | yes r ↦ let l : b * g ≤ b * (n / b) = mul-le-mul_left b (omega arith) in omega arith
-      | no r ↦
-          let l : b * (g + 1) ≤ b * (n / b) = mul-le-mul_left b (omega arith) in
-          let e : b * (g + 1) ≡ b * g + b = mul-add b g 1 ∙ omega arith in
-          omega arith
-    ]
+-- sums of the first wires do not see those after them
+comb_front : (ys zs : List ℕ) (t : ℕ) → t < 2 ^ length ys → comb (ys ++ zs) t ≡ comb ys t
+comb_front [] zs t h = let z : t ≡ 0 = omega arith in ap (comb zs) z ∙ comb_zero zs
+comb_front (y ∷ ys) zs t h = ap (bit_xor (t % 2 * y)) (comb_front ys zs (t / 2) (omega (arith, h, pow_step (length ys))))
 
-pub groups_cover : (n b g : ℕ) → 1 ≤ b → n / b + min 1 (n % b) ≤ g → n ≤ b * g
-groups_cover n b g some h =
-    let d = div-add-mod n b in
-    let m : n % b < b = mod-lt n some in
-    elim (dec_le 1 (n % b)) [
-      | yes r ↦
-          let l : b * (n / b + 1) ≤ b * g = mul-le-mul_left b (omega arith) in
-          let e : b * (n / b + 1) ≡ b * (n / b) + b = mul-add b (n / b) 1 ∙ omega arith in
-          omega arith
-      | no r ↦ let l : b * (n / b) ≤ b * g = mul-le-mul_left b (omega arith) in omega arith
-    ]
+-- ys are the next b of the wires that are left, or all of them, and zs those after
+module _ {X : Type 0} (b k : ℕ) (all ys zs : List X) (e : drop (b * k) all ≡ ys ++ zs) (n : length ys ≡ min b (length (drop (b * k) all))) where
+  whole_or_last : (length ys ≡ b) ⊎ (zs ≡ [])
+  whole_or_last =
+      let l : length (drop (b * k) all) ≡ length ys + length zs = ap length e ∙ length-append ys zs in
+      elim (dec_le b (length (drop (b * k) all))) [
+        | yes h ↦ inl (omega arith)
+        | no h ↦ inr (nil_from_length zs (omega arith))
+      ]
+
+  pub after_part : zs ≡ drop (b * (k + 1)) all
+  after_part =
+      let next : b * k + b ≡ b * (k + 1) = sym (mul-add b k 1 ∙ omega arith) in
+      let past : drop b (ys ++ zs) ≡ drop (b * (k + 1)) all = ap (drop b) (sym e) ∙ drop-drop b (b * k) all ∙ ap (λ i. drop i all) next in
+      elim whole_or_last [
+        | inl h ↦ sym (drop_at ys zs b h) ∙ past
+        | inr h ↦
+            let few : length (ys ++ zs) ≤ b = omega (arith, length-append ys zs, ap length h, n) in
+            h ∙ sym (drop_all b (ys ++ zs) few) ∙ past
+      ]
+
+  pub comb_part : (f : X → ℕ) (t : ℕ) → t < 2 ^ b → comb (map f ys) t ≡ comb (drop (b * k) (map f all)) t
+  comb_part f t h =
+      let whole : drop (b * k) (map f all) ≡ map f ys ++ map f zs = drop-map f (b * k) all ∙ ap (map f) e ∙ map-append f ys zs in
+      elim whole_or_last [
+        | inl l ↦
+            let m : length (map f ys) ≡ b = length-map ys f ∙ l in
+            sym (ap (λ l. comb l t) whole ∙ comb_front (map f ys) (map f zs) t (subst (λ i. t < 2 ^ i) (sym m) h))
+        | inr l ↦ sym (ap (λ l. comb l t) (whole ∙ ap (λ l. map f ys ++ map f l) l ∙ append-nil (map f ys)))
+      ]

@@ -80,9 +80,6 @@ gates_more i m a b c s t =
       capacity = t.capacity ∙ s.capacity;
     }
 
-pub gates_all : (i r m : ℕ) (a b : Account) → i ≡ r → Spent a (i * (3 * m)) b → Spent a (3 * m * r) b
-gates_all i r m a b e s = subst (λ (n : ℕ). Spent a n b) (ap (λ (k : ℕ). k * (3 * m)) e ∙ mul_comm r (3 * m)) s
-
 -- what the first key matrix adds in a lane
 pub first_lane : (p : Params) (ws : List ℕ) (u k a e : ℕ) (key to : List ℕ) → u ≡ key_words_of p → k ≡ p.n → a ≡ keys_place p → to ≡ times (rows u k (drop a ws)) key
     → mul to e ≡ mul (matrix_at (key_words_of p) p.n (keys_place p) ws) (mul key e)

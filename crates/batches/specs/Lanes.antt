@@ -1,6 +1,9 @@
 -- Blocks in lanes. The words that wires carry are the rows of a matrix with a column for each lane: bit i of the block in lane j is bit j of wire i.
 use Rattle.std.specs.Prelude.{ℕ, zero, suc, ◌+◌, ◌*◌, ◌^◌, List, [], ◌∷◌, ◌++◌, bit_and, bit_xor}
 use Rattle.bits.specs.Gf2.{dot, mul}
+use Rattle.cipher.specs.declared.direction.Direction.{Direction}
+use Rattle.cipher.specs.declared.direction.Direction.TheVariants.{Encrypt, Decrypt}
+use Rattle.cipher.specs.LowMC.{substitution, unsubstitution}
 
 -- lane j of wires: the column j
 abbrev pub lane : ℕ → List ℕ → ℕ
@@ -30,3 +33,13 @@ unbox_at k v =
     let b : ℕ = dot (2 ^ (k + 1)) v in
     let c : ℕ = dot (2 ^ (k + 2)) v in
     bit_xor (bit_xor (bit_xor v (bit_xor b (bit_and b c) * 2 ^ k)) (bit_and a c * 2 ^ (k + 1))) (bit_xor (bit_xor a b) (bit_and a b) * 2 ^ (k + 2))
+
+-- one of the two, by the direction of the cipher
+abbrev pub box_along : Direction → ℕ → ℕ → ℕ
+box_along Encrypt = box_at
+box_along Decrypt = unbox_at
+
+-- the same of whole layers
+abbrev pub substitution_along : Direction → ℕ → ℕ → ℕ
+substitution_along Encrypt = substitution
+substitution_along Decrypt = unsubstitution

@@ -14,6 +14,7 @@ ghost use Rattle.batches.specs.Batches.{Cleared, Leaves, batch_checks, blocks_af
 use crate::lanes::{load, unload};
 use crate::rounds::{decrypt_wires, encrypt_wires};
 use crate::wires::clear;
+use bits::matrix::Matrix;
 use bits::refusal::{Fault, Layer, Refusal};
 use cipher::direction::Direction;
 use cipher::instance::Instance;
@@ -44,10 +45,10 @@ fn check_batch(
     if keys.len() != count * v {
         return Err(Fault::at(Refusal::WrongLength, Layer::Batch, count * v));
     }
-    if let Some(i) = first_in_rows(blocks, 0, count, w, n) {
+    if let Some(i) = first_in_rows(Matrix::new(blocks, w, count), n) {
         return Err(Fault::at(Refusal::StrayBit, Layer::Batch, i));
     }
-    if let Some(i) = first_in_rows(keys, 0, count, v, k) {
+    if let Some(i) = first_in_rows(Matrix::new(keys, v, count), k) {
         return Err(Fault::at(Refusal::StrayBit, Layer::Batch, i));
     }
     if masks < n + k {
@@ -155,8 +156,8 @@ fn run_accepted<E: Engine>(
     clear(e, &mut cells[..used]);
 }
 
-// A batch in either direction.
-fn run_batch<E: Engine>(
+// A batch in either direction, with the promises of `encrypt` and `decrypt`.
+pub fn run_batch<E: Engine>(
     way: Direction,
     engine: &mut E,
     held: &Instance,
@@ -171,26 +172,21 @@ fn run_batch<E: Engine>(
     ensures leaves { Leaves E.means (held_by held.now) result (E.acct engine.old) (E.acct engine.new) cells.old cells.new }
     ensures stays { is_ok result ≡ false → engine.new ≡ engine.old }
 {
-    match held.held() {
-        None => {
-            return Err(Fault::at(Refusal::NoInstance, Layer::Batch, 0));
-        }
-        Some((p, words)) => {
-            let account = engine.account();
-            check_batch(
-                p,
-                E::lanes_of(),
-                account,
-                count,
-                blocks,
-                keys,
-                masks.len(),
-                cells.len(),
-            )?;
-            run_accepted(way, engine, words, p, count, blocks, keys, masks, cells);
-            return Ok(());
-        }
-    }
+    let Some((p, words)) = held.held() else {
+        return Err(Fault::at(Refusal::NoInstance, Layer::Batch, 0));
+    };
+    check_batch(
+        p,
+        E::lanes_of(),
+        engine.account(),
+        count,
+        blocks,
+        keys,
+        masks.len(),
+        cells.len(),
+    )?;
+    run_accepted(way, engine, words, p, count, blocks, keys, masks, cells);
+    Ok(())
 }
 
 // Encrypts `count` blocks in place, block j under key j. It spends the gates of one block, whatever the count, and leaves the cells that it used

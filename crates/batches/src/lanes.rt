@@ -12,6 +12,7 @@ fn gather(blocks: &[u64], w: usize, count: usize, i: usize) -> u64
     requires lanes { count ≤ 64 }
     ensures { result ≡ lane i (rows w count blocks.now) }
 {
+    // By number, since the lane is also the shift, and `chunks_exact` asks for blocks of at least a word, which is not known here.
     let mut word: u64 = 0;
     for j in 0..count {
         let start = j * w;
@@ -34,8 +35,8 @@ pub(crate) fn load<E: Engine>(
     requires masks { length cells.old ≤ length masks.now }
     ensures { map E.means cells.new ≡ columns (length cells.old) (rows w count blocks.now) }
 {
-    for i in 0..cells.len() {
-        cells[i] = e.enter(gather(blocks, w, count, i), masks[i]);
+    for (i, cell) in cells.iter_mut().enumerate() {
+        *cell = e.enter(gather(blocks, w, count, i), masks[i]);
     }
 }
 
@@ -46,8 +47,8 @@ fn read_lane<E: Engine>(e: &E, cells: &[E::Wire], j: usize, block: &mut [u64])
     ensures { value block.new ≡ lane j (map E.means cells.now) }
 {
     block.fill(0);
-    for i in 0..cells.len() {
-        let on = (e.read(cells[i]) >> j) % 2;
+    for (i, cell) in cells.iter().enumerate() {
+        let on = (e.read(*cell) >> j) % 2;
         block[i / 64] |= on << (i % 64);
     }
 }
@@ -65,6 +66,7 @@ pub(crate) fn unload<E: Engine>(
     requires room { length cells.now ≤ 64 * w }
     ensures { blocks.new ≡ flat w (columns count (map E.means cells.now)) }
 {
+    // By index, since what is written through `chunks_exact_mut` is lost to the proof.
     for j in 0..count {
         let start = j * w;
         read_lane(e, cells, j, &mut blocks[start..start + w]);

@@ -8,8 +8,9 @@ ghost use Rattle.cipher.specs.LowMC.{decrypt as deciphered, encrypt as enciphere
 ghost use Rattle.engines.specs.Accounts.{Spent};
 ghost use Rattle.batches.specs.Lanes.{lane};
 
-use crate::gates::{substitute, unsubstitute};
+use crate::gates::substitute;
 use crate::wires::{add_constant, add_wires, product};
+use cipher::direction::Direction;
 use cipher::params::Params;
 use cipher::places::{Places, at_round, keys_from};
 use engines::engine::Engine;
@@ -37,7 +38,7 @@ fn forward<E: Engine>(
 {
     let w = p.block_words();
     let c = at.constant;
-    substitute(e, state, p.m as usize);
+    substitute(Direction::Encrypt, e, state, p.m as usize);
     product(e, words, at.layer, w, state, spare, sums);
     product(e, words, at.key, p.key_words(), key, state, sums);
     add_wires(e, state, spare);
@@ -72,7 +73,7 @@ fn backward<E: Engine>(
     add_constant(e, state, &words[c..c + w]);
     product(e, words, at.inverse, w, state, spare, sums);
     state.copy_from_slice(spare);
-    unsubstitute(e, state, p.m as usize);
+    substitute(Direction::Decrypt, e, state, p.m as usize);
 }
 
 // Encrypts the state in each lane: the first key matrix, then the rounds. `spare` and `sums` are changed.

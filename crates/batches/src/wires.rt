@@ -14,40 +14,20 @@ fn group_size(room: usize) -> usize
     requires { 2 ≤ room }
     ensures { (2 ^ result ≤ room) × (1 ≤ result) × (result ≤ 4) × (result * (64 / result) ≡ 64) }
 {
-    if room >= 16 {
-        return 4;
+    match room {
+        16.. => 4,
+        4.. => 2,
+        _ => 1,
     }
-    if room >= 4 {
-        return 2;
-    }
-    1
-}
-
-// The place of the highest one of `t`, which is from 1 to 15.
-fn highest(t: usize) -> usize
-    requires { (1 ≤ t) × (t < 16) }
-    ensures { (result < 4) × (2 ^ result ≤ t) × (t < 2 ^ (result + 1)) }
-{
-    if t >= 8 {
-        return 3;
-    }
-    if t >= 4 {
-        return 2;
-    }
-    if t >= 2 {
-        return 1;
-    }
-    0
 }
 
 // The wire at `i`, or one that carries 0 past the end.
 fn wire_at<E: Engine>(e: &E, from: &[E::Wire], i: usize) -> E::Wire
     ensures { E.means result ≡ slice_index (map E.means from.now) i }
 {
-    if i < from.len() {
-        from[i]
-    } else {
-        e.enter(0, 0)
+    match from.get(i) {
+        Some(wire) => *wire,
+        None => e.enter(0, 0),
     }
 }
 
@@ -58,8 +38,8 @@ fn sum_ways<E: Engine>(e: &E, from: &[E::Wire], b: usize, sums: &mut [E::Wire])
     ensures { (t : ℕ) → t < 2 ^ b → slice_index (map E.means sums.new) t ≡ comb (map E.means from.now) t }
 {
     sums[0] = e.enter(0, 0);
-    for t in 1..1 << b {
-        let top = highest(t);
+    for t in 1..1usize << b {
+        let top = t.ilog2() as usize;
         sums[t] = e.add(sums[t - (1 << top)], wire_at(e, from, top));
     }
 }
@@ -85,9 +65,9 @@ fn add_group<E: Engine>(
     let word = g / in_word;
     let shift = b * (g % in_word);
     let ways: u64 = 1 << b;
-    for i in 0..to.len() {
+    for (i, wire) in to.iter_mut().enumerate() {
         let pick = (words[at + i * w + word] >> shift) % ways;
-        to[i] = e.add(to[i], sums[pick as usize]);
+        *wire = e.add(*wire, sums[pick as usize]);
     }
 }
 
@@ -109,8 +89,8 @@ pub(crate) fn product<E: Engine>(
 {
     clear(e, to);
     let b = group_size(sums.len());
-    for g in 0..from.len().div_ceil(b) {
-        sum_ways(e, &from[b * g..], b, sums);
+    for (g, wires) in from.chunks(b).enumerate() {
+        sum_ways(e, wires, b, sums);
         add_group(e, words, at, w, b, g, sums, to);
     }
 }
@@ -120,8 +100,8 @@ pub(crate) fn add_wires<E: Engine>(e: &E, to: &mut [E::Wire], from: &[E::Wire])
     requires { length to.old ≡ length from.now }
     ensures { (v : ℕ) → mul (map E.means to.new) v ≡ bit_xor (mul (map E.means to.old) v) (mul (map E.means from.now) v) }
 {
-    for i in 0..to.len() {
-        to[i] = e.add(to[i], from[i]);
+    for (i, wire) in to.iter_mut().enumerate() {
+        *wire = e.add(*wire, from[i]);
     }
 }
 
@@ -137,9 +117,9 @@ pub(crate) fn add_constant<E: Engine>(e: &E, to: &mut [E::Wire], constant: &[u64
     requires { value constant.now < 2 ^ length to.old }
     ensures { (j : ℕ) → j < E.lanes → lane j (map E.means to.new) ≡ bit_xor (lane j (map E.means to.old)) (value constant.now) }
 {
-    for i in 0..to.len() {
+    for (i, wire) in to.iter_mut().enumerate() {
         let c = e.enter(spread(constant, i), 0);
-        to[i] = e.add(to[i], c);
+        *wire = e.add(*wire, c);
     }
 }
 
@@ -147,7 +127,8 @@ pub(crate) fn add_constant<E: Engine>(e: &E, to: &mut [E::Wire], constant: &[u64
 pub(crate) fn clear<E: Engine>(e: &E, cells: &mut [E::Wire])
     ensures { map E.means cells.new ≡ replicate (length cells.old) 0 }
 {
-    for i in 0..cells.len() {
-        cells[i] = e.enter(0, 0);
+    // Not by `fill`, which says of a type parameter only that each is a clone.
+    for cell in cells.iter_mut() {
+        *cell = e.enter(0, 0);
     }
 }

@@ -1,10 +1,9 @@
--- One step of the check of a tape.
-use Rattle.std.proofs.Common.{◌≡◌, ℕ, suc, ◌+◌, ◌-◌, ◌<◌, Bool, true, false, cond, List, Err, sym, ap, ◌∙◌, subst, arith, below_more, eqb-true}
-use borrow.Author.Tests.{eqb-false}
+-- The check of a tape, triple by triple.
+use Rattle.std.proofs.Common.{◌≡◌, ℕ, zero, suc, ◌+◌, ◌-◌, ◌<◌, ◌≤◌, Bool, true, false, cond, List, Ok, Err, ap, ◌∙◌, arith}
 use Rattle.bits.specs.Refusals.{fault_at}
 use Rattle.bits.specs.declared.refusal.Layer.TheVariants.{Engine}
 use Rattle.bits.specs.declared.refusal.Refusal.TheVariants.{BadTriples}
-use Rattle.engines.specs.Triples.{AllTrue, IsTrueTriple, check_from, triple_of, truth}
+use Rattle.engines.specs.Triples.{check_from, triple_of, truth}
 
 one_less : (j n : ℕ) → j < n → n - j ≡ suc (n - (j + 1))
 one_less j n h = omega arith
@@ -16,18 +15,18 @@ at_triple t j n b h e =
     ap (check_from t j) (one_less j n h)
     ∙ ap (λ (v : Bool). cond v (check_from t (j + 1) (n - (j + 1))) (Err (fault_at BadTriples Engine j))) e
 
--- a true triple leaves it to the rest
-pub past_true : (t : List ℕ) (j n : ℕ) → j < n → truth (triple_of t j) ≡ true → check_from t j (n - j) ≡ check_from t (j + 1) (n - (j + 1))
-past_true t j n h e = at_triple t j n true h e
+-- true triples leave it to the rest
+past_true : (t : List ℕ) (j n : ℕ) → j ≤ n → ((k : ℕ) → k < j → truth (triple_of t k) ≡ true) → check_from t 0 n ≡ check_from t j (n - j)
+past_true t zero n h all = ap (check_from t 0) (omega arith)
+past_true t (suc j) n h all =
+    past_true t j n (omega arith) (λ k l. all k (omega arith))
+    ∙ at_triple t j n true (omega arith) (all j (omega arith))
+    ∙ ap (λ i. check_from t i (n - i)) (omega arith)
 
-pub more_true : (t : List ℕ) (j : ℕ) → AllTrue t j → truth (triple_of t j) ≡ true → AllTrue t (j + 1)
-more_true t j all e = below_more (λ (k : ℕ). IsTrueTriple (triple_of t k)) j all (eqb-true _ _ e)
+pub none_false : (t : List ℕ) (n : ℕ) → ((k : ℕ) → k < n → truth (triple_of t k) ≡ true) → check_from t 0 n ≡ Ok tt
+none_false t n all = let e : n - n ≡ 0 = omega arith in past_true t n n (omega arith) all ∙ ap (check_from t n) e
 
--- a false one is refused
-pub at_false : (t : List ℕ) (j n : ℕ) → j < n → truth (triple_of t j) ≡ false → check_from t j (n - j) ≡ Err (fault_at BadTriples Engine j)
-at_false t j n h e = at_triple t j n false h e
-
-pub first_false : (t : List ℕ) (j n p : ℕ) → p ≡ j → j < n → AllTrue t j → truth (triple_of t j) ≡ false
-    → AllTrue t p × (p < n) × (IsTrueTriple (triple_of t p) → ⊥)
-first_false t j n p is h all e =
-    subst (λ (k : ℕ). AllTrue t k × (k < n) × (IsTrueTriple (triple_of t k) → ⊥)) (sym is) (all, h, eqb-false _ _ e)
+-- the first false one is refused
+pub first_false : (t : List ℕ) (j n : ℕ) → j < n → ((k : ℕ) → k < j → truth (triple_of t k) ≡ true) → truth (triple_of t j) ≡ false
+    → check_from t 0 n ≡ Err (fault_at BadTriples Engine j)
+first_false t j n h all e = past_true t j n (omega arith) all ∙ at_triple t j n false h e

@@ -19,10 +19,6 @@ pub record Sound (a : Account) : Type 0 where
   pub bounded : a.granted ≤ a.capacity
   pub small : a.capacity < 2 ^ 32
 
--- the same as a product, which a field of a struct can hold
-abbrev pub Kept : Account → Type 0
-Kept a = (a.done ≤ a.granted) × (a.granted ≤ a.capacity) × (a.capacity < 2 ^ 32)
-
 -- n gates were done: from a to b
 pub record Spent (a : Account) (n : ℕ) (b : Account) : Type 0 where
   pub room : a.done + n ≤ a.granted

@@ -1,5 +1,5 @@
 // What every engine of gates promises.
-ghost use Rattle.std.specs.Prelude.{◌≡◌, ℕ, ◌+◌, ◌-◌, ◌%◌, ◌^◌, ◌<◌, ◌≤◌, Ok, Err, bit_and, bit_xor};
+ghost use Rattle.std.specs.Prelude.{◌≡◌, ℕ, ◌+◌, ◌-◌, ◌%◌, ◌^◌, ◌<◌, ◌≤◌, MatchResult, bit_and, bit_xor};
 ghost use Rattle.engines.specs.declared.engine.Account.{Account};
 ghost use Rattle.engines.specs.Accounts.{Dry, Full, Granted, Sound, Spent, left as left_of, new_account};
 
@@ -31,39 +31,53 @@ impl Account {
     {
         self.granted.saturating_sub(self.done)
     }
+}
 
-    // The account after one more gate; refused if no granted gate is left.
-    pub(crate) fn spend(self) -> Result<Account, Fault>
-        requires { Sound self }
-        ensures { elim result [ Ok b ↦ Spent self 1 b | Err f ↦ Dry self f ] }
+// What an engine has in its keeping: an account that grants no more than the capacity and counts no gate that was not granted.
+#[derive(Clone, Copy)]
+pub(crate) struct Ledger {
+    pub account: Account,
+    ghost kept: { Sound account },
+}
+
+impl Ledger {
+    // The ledger of a new engine.
+    pub fn new(capacity: u32) -> Ledger
+        ensures { result.account ≡ new_account capacity }
     {
-        if self.done == self.granted {
+        Ledger {
+            account: Account::new(capacity),
+        }
+    }
+
+    // The ledger after one more gate; refused if no granted gate is left.
+    pub fn spend(self) -> Result<Ledger, Fault>
+        ensures { MatchResult result (λ l. Spent self.account 1 l.account) (Dry self.account) }
+    {
+        if self.account.left() == 0 {
             return Err(Fault::at(Refusal::OutOfGates, Layer::Engine, 0));
         }
-        Ok(Account {
-            capacity: self.capacity,
-            granted: self.granted,
-            done: self.done + 1,
+        Ok(Ledger {
+            account: Account {
+                done: self.account.done + 1,
+                ..self.account
+            },
         })
     }
 
-    // The account after a grant of g gates; refused if that passes the capacity.
-    pub(crate) fn raise(self, g: u32) -> Result<Account, Fault>
-        requires { Sound self }
-        ensures { elim result [ Ok b ↦ Granted self g b | Err f ↦ Full self g f ] }
+    // The ledger after a grant of g gates; refused if that passes the capacity.
+    pub fn grant(self, g: u32) -> Result<Ledger, Fault>
+        ensures { MatchResult result (λ l. Granted self.account g l.account) (Full self.account g) }
     {
-        let free = self.capacity - self.granted;
+        let free = self.account.capacity - self.account.granted;
         if g > free {
-            return Err(Fault {
-                refusal: Refusal::OverCapacity,
-                layer: Layer::Engine,
-                place: free as u64,
-            });
+            return Err(Fault::at(Refusal::OverCapacity, Layer::Engine, free as usize));
         }
-        Ok(Account {
-            capacity: self.capacity,
-            granted: self.granted + g,
-            done: self.done,
+        Ok(Ledger {
+            account: Account {
+                granted: self.account.granted + g,
+                ..self.account
+            },
         })
     }
 }
@@ -106,11 +120,11 @@ pub trait Engine {
 
     // The product of two wires, lane by lane, for one granted gate; refused exactly when none is left.
     fn gate(&mut self, x: Self::Wire, y: Self::Wire) -> Result<Self::Wire, Fault>
-        ensures { elim result [ Ok w ↦ (means w ≡ bit_and (means x) (means y)) × Spent (acct self.old) 1 (acct self.new) | Err f ↦ (self.new ≡ self.old) × Dry (acct self.old) f ] };
+        ensures { MatchResult result (λ w. (means w ≡ bit_and (means x) (means y)) × Spent (acct self.old) 1 (acct self.new)) (λ f. (self.new ≡ self.old) × Dry (acct self.old) f) };
 
     // Grants g more gates; refused exactly when that passes the capacity.
     fn grant(&mut self, g: u32) -> Result<(), Fault>
-        ensures { elim result [ Ok _ ↦ Granted (acct self.old) g (acct self.new) | Err f ↦ (self.new ≡ self.old) × Full (acct self.old) g f ] };
+        ensures { MatchResult result (λ _. Granted (acct self.old) g (acct self.new)) (λ f. (self.new ≡ self.old) × Full (acct self.old) g f) };
 
     // The counts as they stand.
     fn account(&self) -> Account

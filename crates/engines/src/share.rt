@@ -1,11 +1,11 @@
 // The engine on shares: a wire is two words whose sum is the word that it carries, and each gate spends a triple of a tape.
-ghost use Rattle.std.specs.Prelude.{◌≡◌, ℕ, ◌+◌, ◌-◌, ◌*◌, ◌/◌, ◌%◌, ◌^◌, ◌<◌, ◌≤◌, length, Ok, Err, bit_and, bit_xor};
+ghost use Rattle.std.specs.Prelude.{◌≡◌, ℕ, ◌+◌, ◌-◌, ◌*◌, ◌/◌, ◌%◌, ◌^◌, ◌<◌, ◌≤◌, length, IfOk, MatchResult, bit_and, bit_xor};
 ghost use Rattle.std.proofs.lemmas.Nat.{xor_lt};
 ghost use Rattle.std.proofs.Common.{lit≤};
-ghost use Rattle.engines.specs.Accounts.{Kept, new_account, Spent, Dry, Granted, Full};
+ghost use Rattle.engines.specs.Accounts.{new_account, Spent, Dry, Granted, Full};
 ghost use Rattle.engines.specs.Triples.{AllTrue, IsTrueTriple, WorkedExample, check_from, filling, shares_of, triple_of, truth};
 
-use crate::engine::{Account, Engine};
+use crate::engine::{Account, Engine, Ledger};
 use bits::refusal::{Fault, Layer, Refusal};
 
 // The longest tape, in words.
@@ -23,6 +23,7 @@ pub struct Shares {
 }
 
 impl Shares {
+    // What is passed is known to fit, and so a literal of sums would need a lemma where this needs none.
     fn of(s0: u64, s1: u64) -> Shares
         ensures { (result.s0 ≡ s0) × (result.s1 ≡ s1) }
     {
@@ -45,10 +46,9 @@ pub struct Triple {
 #[derive(Drop)]
 pub struct ShareEngine<'a> {
     tape: &'a [u64],
-    account: Account,
-    ghost kept: { Kept account },
-    ghost counted: { 6 * account.capacity ≡ length tape.now },
-    ghost truthful: { AllTrue tape.now account.capacity },
+    ledger: Ledger,
+    ghost counted: { 6 * ledger.account.capacity ≡ length tape.now },
+    ghost truthful: { AllTrue tape.now ledger.account.capacity },
 }
 
 // The triple number j of a tape.
@@ -80,14 +80,12 @@ impl Triple {
 fn check_triples(tape: &[u64], n: usize) -> Result<(), Fault>
     requires { 6 * n ≤ length tape.now }
     ensures answer { result ≡ check_from tape.now 0 n }
-    ensures meaning { elim result [ Ok _ ↦ AllTrue tape.now n | Err f ↦ AllTrue tape.now f.place × (f.place < n) × (IsTrueTriple (triple_of tape.now f.place) → ⊥) ] }
+    ensures meaning { MatchResult result (λ _. AllTrue tape.now n) (λ f. AllTrue tape.now f.place × (f.place < n) × (IsTrueTriple (triple_of tape.now f.place) → ⊥)) }
 {
-    for j in 0..n {
-        if !triple_at(tape, j).is_true() {
-            return Err(Fault::at(Refusal::BadTriples, Layer::Engine, j));
-        }
+    match (0..n).find(|&j| !triple_at(tape, j).is_true()) {
+        Some(j) => Err(Fault::at(Refusal::BadTriples, Layer::Engine, j)),
+        None => Ok(()),
     }
-    Ok(())
 }
 
 // The two shares of a product. Each side publishes its shares of d = x + a and of e = y + b, and computes the rest apart.
@@ -112,11 +110,11 @@ pub fn worked_example_stands() -> u8
 impl<'a> ShareEngine<'a> {
     // An engine with no triples.
     pub fn empty() -> ShareEngine<'a>
-        ensures { result.account ≡ new_account 0 }
+        ensures { result.ledger.account ≡ new_account 0 }
     {
         ShareEngine {
             tape: &NO_WORDS,
-            account: Account::new(0),
+            ledger: Ledger::new(0),
         }
     }
 
@@ -124,15 +122,15 @@ impl<'a> ShareEngine<'a> {
     // whole number of triples, or is too long; then one with a false triple.
     pub fn fill(&mut self, tape: &'a [u64]) -> Result<(), Fault>
         ensures answer { result ≡ filling tape.now }
-        ensures after { elim result [ Ok _ ↦ (self.new.account ≡ new_account (length tape.now / 6)) × (self.new.tape.now ≡ tape.now) | Err _ ↦ self.new ≡ self.old ] }
+        ensures after { MatchResult result (λ _. (self.new.ledger.account ≡ new_account (length tape.now / 6)) × (self.new.tape.now ≡ tape.now)) (λ _. self.new ≡ self.old) }
     {
         let triples = tape.len() / 6;
-        if tape.len() % 6 != 0 || tape.len() > MOST_WORDS {
+        if !tape.len().is_multiple_of(6) || tape.len() > MOST_WORDS {
             return Err(Fault::at(Refusal::BadTriples, Layer::Engine, triples));
         }
         check_triples(tape, triples)?;
         self.tape = tape;
-        self.account = Account::new(triples as u32);
+        self.ledger = Ledger::new(triples as u32);
         Ok(())
     }
 }
@@ -150,9 +148,9 @@ impl<'a> Engine for ShareEngine<'a> {
 
     ghost within = { λ w. xor_lt 64 w.s0 w.s1 w.fits.0 w.fits.1 };
 
-    ghost acct = { λ e. e.account };
+    ghost acct = { λ e. e.ledger.account };
 
-    ghost sound = { λ e. record { spent = e.kept.0; bounded = e.kept.1; small = e.kept.2 } };
+    ghost sound = { λ e. e.ledger.kept };
 
     fn lanes_of() -> u32
         ensures { result ≡ 64 }
@@ -182,25 +180,24 @@ impl<'a> Engine for ShareEngine<'a> {
 
     // Gate number j, from 0, spends the triple number j of the tape, which stays.
     fn gate(&mut self, x: Shares, y: Shares) -> Result<Shares, Fault>
-        ensures meaning { elim result [ Ok w ↦ (bit_xor w.s0 w.s1 ≡ bit_and (bit_xor x.s0 x.s1) (bit_xor y.s0 y.s1)) × Spent self.old.account 1 self.new.account | Err f ↦ (self.new ≡ self.old) × Dry self.old.account f ] }
-        ensures shares { elim result [ Ok w ↦ ((w.s0, w.s1) ≡ shares_of (x.s0, x.s1) (y.s0, y.s1) (triple_of self.old.tape.now self.old.account.done)) × (self.new.tape ≡ self.old.tape) | Err _ ↦ Unit ] }
+        ensures meaning { MatchResult result (λ w. (bit_xor w.s0 w.s1 ≡ bit_and (bit_xor x.s0 x.s1) (bit_xor y.s0 y.s1)) × Spent self.old.ledger.account 1 self.new.ledger.account) (λ f. (self.new ≡ self.old) × Dry self.old.ledger.account f) }
+        ensures shares { IfOk result (λ w. ((w.s0, w.s1) ≡ shares_of (x.s0, x.s1) (y.s0, y.s1) (triple_of self.old.tape.now self.old.ledger.account.done)) × (self.new.tape ≡ self.old.tape)) }
     {
-        let next = self.account.spend()?;
-        let triple = triple_at(self.tape, self.account.done as usize);
-        self.account = next;
-        Ok(product(x, y, triple))
+        let number = self.ledger.account.done as usize;
+        self.ledger = self.ledger.spend()?;
+        Ok(product(x, y, triple_at(self.tape, number)))
     }
 
     fn grant(&mut self, g: u32) -> Result<(), Fault>
-        ensures granted { elim result [ Ok _ ↦ Granted self.old.account g self.new.account | Err f ↦ (self.new ≡ self.old) × Full self.old.account g f ] }
+        ensures granted { MatchResult result (λ _. Granted self.old.ledger.account g self.new.ledger.account) (λ f. (self.new ≡ self.old) × Full self.old.ledger.account g f) }
         ensures tape_unchanged { self.new.tape ≡ self.old.tape }
     {
-        self.account = self.account.raise(g)?;
+        self.ledger = self.ledger.grant(g)?;
         Ok(())
     }
 
     fn account(&self) -> Account {
-        self.account
+        self.ledger.account
     }
 }
 

@@ -1,9 +1,9 @@
 // The plain engine: a wire is the word itself.
 ghost use Rattle.std.specs.Prelude.{◌≡◌, ℕ, ◌^◌, ◌<◌, ◌≤◌};
 ghost use Rattle.std.proofs.Common.{lit≤};
-ghost use Rattle.engines.specs.Accounts.{Kept, new_account};
+ghost use Rattle.engines.specs.Accounts.{new_account};
 
-use crate::engine::{Account, Engine};
+use crate::engine::{Account, Engine, Ledger};
 use bits::refusal::Fault;
 
 // A wire of 64 lanes.
@@ -14,6 +14,7 @@ pub struct Word {
 }
 
 impl Word {
+    // What is passed is known to fit, and so a literal of a sum would need a lemma where this needs none.
     fn of(bits: u64) -> Word
         ensures { result.bits ≡ bits }
     {
@@ -24,17 +25,16 @@ impl Word {
 // An engine that computes on the words themselves.
 #[derive(Drop)]
 pub struct WordEngine {
-    account: Account,
-    ghost kept: { Kept account },
+    ledger: Ledger,
 }
 
 impl WordEngine {
     // A new engine of the given capacity, with nothing granted.
     pub fn new(capacity: u32) -> WordEngine
-        ensures { result.account ≡ new_account capacity }
+        ensures { result.ledger.account ≡ new_account capacity }
     {
         WordEngine {
-            account: Account::new(capacity),
+            ledger: Ledger::new(capacity),
         }
     }
 }
@@ -52,9 +52,9 @@ impl Engine for WordEngine {
 
     ghost within = { λ w. w.fits };
 
-    ghost acct = { λ e. e.account };
+    ghost acct = { λ e. e.ledger.account };
 
-    ghost sound = { λ e. record { spent = e.kept.0; bounded = e.kept.1; small = e.kept.2 } };
+    ghost sound = { λ e. e.ledger.kept };
 
     fn lanes_of() -> u32 {
         Self::LANES
@@ -73,17 +73,17 @@ impl Engine for WordEngine {
     }
 
     fn gate(&mut self, x: Word, y: Word) -> Result<Word, Fault> {
-        self.account = self.account.spend()?;
+        self.ledger = self.ledger.spend()?;
         Ok(Word::of(x.bits & y.bits))
     }
 
     fn grant(&mut self, g: u32) -> Result<(), Fault> {
-        self.account = self.account.raise(g)?;
+        self.ledger = self.ledger.grant(g)?;
         Ok(())
     }
 
     fn account(&self) -> Account {
-        self.account
+        self.ledger.account
     }
 }
 
@@ -98,10 +98,10 @@ mod tests {
         let mut engine = WordEngine::new(7);
         let x = engine.enter(6, 0);
         let y = engine.enter(3, 0);
-        match engine.gate(x, y) {
-            Ok(_) => assert!(rt; false),
-            Err(f) => assert_eq!(rt; f, Fault::at(Refusal::OutOfGates, Layer::Engine, 0)),
-        }
+        assert_eq!(rt;
+            engine.gate(x, y).err(),
+            Some(Fault::at(Refusal::OutOfGates, Layer::Engine, 0))
+        );
         assert_eq!(rt;
             engine.grant(8),
             Err(Fault::at(Refusal::OverCapacity, Layer::Engine, 7))

@@ -1,8 +1,6 @@
 -- What an accepted batch leaves in its lanes.
-use Rattle.std.proofs.Common.{◌≡◌, ℕ, zero, suc, ◌*◌, ◌^◌, ◌<◌, ◌≤◌, Bool, true, false, List, [], ◌∷◌, length, get_or, Some, None, Ok, vec_items, Option, Result, sym, refl, ap, ◌∙◌, subst, ap₂, inl, inr, le_of_eq, arith, pow_pos, pow_mono}
-use Rattle.std.proofs.lemmas.Bool.{eqb-true, not-false}
+use Rattle.std.proofs.Common.{◌≡◌, ℕ, zero, suc, ◌*◌, ◌^◌, ◌<◌, ◌≤◌, List, [], ◌∷◌, length, get_or, Some, None, Ok, vec_items, Option, Result, sym, refl, ap, ◌∙◌, subst, ap₂, inl, inr, arith, pow_mono}
 use Rattle.bits.specs.declared.refusal.Fault.{Fault}
-use Rattle.bits.specs.Refusals.{first_of}
 use Rattle.bits.specs.Gf2.{Below, flat, rows}
 use Rattle.bits.proofs.Vectors.{length_rows, rows_flat}
 use Rattle.cipher.specs.declared.params.Params.{Params}
@@ -17,12 +15,13 @@ use Rattle.cipher.specs.Instances.{set_in}
 use Rattle.cipher.specs.Blocks.{Held}
 use Rattle.cipher.specs.Sound.{Sound, TrueInverses}
 use Rattle.cipher.specs.Holds.{held_by}
-use Rattle.cipher.proofs.Calls.{along_below, then_is}
-use Rattle.cipher.proofs.SoundSets.{no_stray, sound_held}
+use Rattle.cipher.proofs.Calls.{along_below}
+use Rattle.cipher.proofs.SoundSets.{sound_held}
 use Rattle.cipher.proofs.Rounds.{encrypt_injective}
-use Rattle.cipher.proofs.Strays.{rows_none}
 use Rattle.engines.specs.declared.engine.Account.{Account}
 use Rattle.batches.specs.Batches.{batch_checks, blocks_after, one_by_one_of}
+use Rattle.batches.proofs.Admitted.{admitted}
+use Rattle.batches.proofs.Packing.{below_at}
 use Rattle.sittings.specs.declared.entry.Batch.{Batch}
 use Rattle.sittings.specs.declared.entry.Call.{Call}
 use Rattle.sittings.specs.declared.entry.Entry.{Entry}
@@ -34,11 +33,6 @@ use Rattle.sittings.specs.Laws.{Accepted, AllApart, AllLanes, Under, asked, bloc
 below_wide : (m n : ℕ) (xs : List ℕ) → m ≤ n → Below m xs → Below n xs
 below_wide m n [] h b = tt
 below_wide m n (x ∷ xs) h b = (omega (arith, b.0, pow_mono h), below_wide m n xs h b.1)
-
-below_get : (n : ℕ) (xs : List ℕ) (j : ℕ) → Below n xs → get_or xs j 0 < 2 ^ n
-below_get n [] j b = pow_pos n
-below_get n (x ∷ xs) zero b = b.0
-below_get n (x ∷ xs) (suc j) b = below_get n xs j b.1
 
 -- ---- each block under its own key
 
@@ -77,11 +71,6 @@ module _ (f : ℕ → ℕ → ℕ) where
 
 -- ---- what the checks tell
 
-three_checks : (a b c : Bool) (x y z : Fault) → first_of ((a, x) ∷ (b, y) ∷ (c, z) ∷ []) ≡ Ok tt → b ≡ false
-three_checks true b c x y z e = absurd (let q : ◌≡◌ {A = ℕ} 0 1 = cc in omega arith)
-three_checks false true c x y z e = absurd (let q : ◌≡◌ {A = ℕ} 0 1 = cc in omega arith)
-three_checks false false c x y z e = refl
-
 -- a set is held, and the blocks are its blocks
 record Fits (h : Held) (count : ℕ) (bs : List ℕ) : Type 0 where
   pub params : Params
@@ -90,13 +79,8 @@ record Fits (h : Held) (count : ℕ) (bs : List ℕ) : Type 0 where
   pub small : Below params.n (rows (block_words_of params) count bs)
 
 fits : (lanes : ℕ) (a : Account) (h : Held) (count : ℕ) (bs ks : List ℕ) (m c : ℕ) → Ok tt ≡ batch_checks lanes a h count bs ks m c → Fits h count bs
-fits lanes a None count bs ks m c e = absurd (let q : ◌≡◌ {A = ℕ} 0 1 = cc in omega arith)
-fits lanes a (Some (p, ws)) count bs ks m c e =
-    let wide : p.n ≤ 64 * block_words_of p = omega arith in
-    let s = then_is _ _ tt (sym e) in
-    let t = then_is _ _ tt s.2 in
-    let size : length bs ≡ count * block_words_of p = eqb-true (length bs) (count * block_words_of p) (not-false _ (three_checks _ _ _ _ _ _ s.1)) in
-    record { params = p; words = ws; is = refl; small = rows_none 0 (block_words_of p) p.n count bs (le_of_eq (sym size)) wide (no_stray _ _ t.1) }
+fits lanes a None count bs ks m c e = absurd cc
+fits lanes a (Some (p, ws)) count bs ks m c e = record { params = p; words = ws; is = refl; small = (admitted lanes count p ws a bs ks m c e).narrow }
 
 -- ---- an accepted batch
 
@@ -114,7 +98,7 @@ module _ {W : Type 0} (means : W → ℕ) (lanes : ℕ) where
       let f = fits lanes a (held_by x.held) x.count (vec_items x.blocks) (vec_items x.keys) _ _ c.answer in
       let p = f.params in
       let ws = f.words in
-      let t : TrueInverses p ws = subst Sound f.is (sound_held x.held.params x.held.words.now x.held.passed) in
+      let t : TrueInverses p ws = subst Sound f.is (sound_held x.held.opened) in
       let wide : p.n ≤ 64 * block_words_of p = omega arith in
       let after : vec_items y.blocks ≡ blocks_after (along way) (Some (p, ws)) (Ok tt) x.count (vec_items x.keys) (vec_items x.blocks) =
       c.blocks ∙ ap (λ (h : Held). blocks_after (along way) h (Ok tt) x.count (vec_items x.keys) (vec_items x.blocks)) f.is in (
@@ -126,7 +110,7 @@ module _ {W : Type 0} (means : W → ℕ) (lanes : ℕ) where
               ∙ one_lane (along way (set_in p ws)) p.n (block_words_of p) (key_words_of p) x.count wide (along_below way p ws t) (vec_items x.keys) (vec_items x.blocks) f.small j h;
           lawful = t.lawful;
           invertible = t.invertible;
-          small = λ j. below_get p.n (rows (block_words_of p) x.count (vec_items x.blocks)) j f.small;
+          small = λ j. below_at p.n (rows (block_words_of p) x.count (vec_items x.blocks)) j f.small;
         },
       )
 

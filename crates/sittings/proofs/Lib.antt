@@ -1,4 +1,3 @@
 pub mod Walk
-pub mod Lent
 pub mod Sums
 pub mod Lanes

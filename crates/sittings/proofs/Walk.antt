@@ -1,12 +1,10 @@
 -- A list that is walked and written in place.
 use Rattle.std.proofs.Common.{◌≡◌, ℕ, suc, ◌+◌, ◌<◌, List, [], ◌∷◌, ◌++◌, length, get_or, take, drop, set, sym, refl, ap, ◌∙◌, subst, add-one, arith, drop-cons, drop-set-lt}
+use Rattle.std.proofs.Math.Path.{subst₂}
 use Rattle.std.proofs.lemmas.List.{take_more, take_more_set}
 use Rattle.engines.specs.declared.engine.Account.{Account}
 use Rattle.sittings.specs.declared.entry.Entry.{Entry}
 use Rattle.sittings.specs.Runs.{Answered, Run}
-
-subst2 : {A B : Type 0} (P : A → B → Type 0) {a a' : A} {b b' : B} → a ≡ a' → b ≡ b' → P a b → P a' b'
-subst2 P {a} {a'} {b} {b'} p q h = subst (P a') q (subst (λ z. P z b) p h)
 
 module _ {X : Type 0} where
   walk_item : (xs ys : List X) (i : ℕ) (x : X) → i < length xs → i < length ys → drop i ys ≡ drop i xs → get_or ys i x ≡ get_or xs i x
@@ -34,4 +32,4 @@ module _ {W : Type 0} (means : W → ℕ) (lanes : ℕ) where
       → Run means lanes a (take (i + 1) xs) (take (i + 1) (set ys i y)) c
   run_more a b c xs ys i x y h k e r s =
       let p : take (i + 1) xs ≡ take i xs ++ (get_or ys i x ∷ []) = take_more xs i x h ∙ ap (λ (z : Entry W). take i xs ++ (z ∷ [])) (sym (walk_item xs ys i x h k e)) in
-      subst2 (λ (u v : List (Entry W)). Run means lanes a u v c) (sym p) (sym (take_more_set ys i y k)) (run_push a b c (take i xs) (take i ys) (get_or ys i x) y r s)
+      subst₂ (λ (u v : List (Entry W)). Run means lanes a u v c) (sym p) (sym (take_more_set ys i y k)) (run_push a b c (take i xs) (take i ys) (get_or ys i x) y r s)

@@ -1,48 +1,31 @@
 // Running a list of calls on one engine, in order.
 ghost use Rattle.std.specs.Prelude.{◌≡◌};
-ghost use Rattle.sittings.specs.Runs.{Answered, Coded, Granting, Run, Step};
-ghost use Rattle.cipher.specs.declared.direction.Direction.TheVariants.{Decrypt, Encrypt};
+ghost use Rattle.sittings.specs.Runs.{Answered, Coded, Run, Step};
 
 use crate::entry::{Batch, Call, Entry};
-use batches::batch::{decrypt, encrypt};
+use batches::batch::run_batch;
 use bits::refusal::Fault;
+use cipher::direction::Direction;
 use engines::engine::Engine;
 
-// Encrypts a batch in place.
-fn encrypt_one<E: Engine>(engine: &mut E, batch: &mut Batch<'_, E::Wire>) -> Result<(), Fault>
-    ensures { Coded E.means E.lanes Encrypt (E.acct engine.old) batch.old batch.new result (E.acct engine.new) }
+// Runs a batch in place.
+fn run_one<E: Engine>(
+    way: Direction,
+    engine: &mut E,
+    batch: &mut Batch<'_, E::Wire>,
+) -> Result<(), Fault>
+    ensures { Coded E.means E.lanes way (E.acct engine.old) batch.old batch.new result (E.acct engine.new) }
 {
-    let Batch {
-        held,
-        count,
-        blocks,
-        keys,
-        masks,
-        cells,
-    } = batch;
-    encrypt(engine, held, *count, blocks, keys, masks, cells)
-}
-
-// Decrypts a batch in place.
-fn decrypt_one<E: Engine>(engine: &mut E, batch: &mut Batch<'_, E::Wire>) -> Result<(), Fault>
-    ensures { Coded E.means E.lanes Decrypt (E.acct engine.old) batch.old batch.new result (E.acct engine.new) }
-{
-    let Batch {
-        held,
-        count,
-        blocks,
-        keys,
-        masks,
-        cells,
-    } = batch;
-    decrypt(engine, held, *count, blocks, keys, masks, cells)
-}
-
-// Grants gates.
-fn grant_one<E: Engine>(engine: &mut E, amount: u32) -> Result<(), Fault>
-    ensures { Granting (E.acct engine.old) amount result (E.acct engine.new) }
-{
-    engine.grant(amount)
+    run_batch(
+        way,
+        engine,
+        &batch.held,
+        batch.count,
+        &mut batch.blocks,
+        &batch.keys,
+        &batch.masks,
+        &mut batch.cells,
+    )
 }
 
 // Makes a call.
@@ -50,9 +33,9 @@ fn make<E: Engine>(engine: &mut E, call: &mut Call<'_, E::Wire>) -> Result<(), F
     ensures { Step E.means E.lanes (E.acct engine.old) call.old call.new result (E.acct engine.new) }
 {
     match call {
-        Call::Grant(amount) => return grant_one(engine, *amount),
-        Call::Encrypt(batch) => return encrypt_one(engine, batch),
-        Call::Decrypt(batch) => return decrypt_one(engine, batch),
+        Call::Grant(amount) => engine.grant(*amount),
+        Call::Encrypt(batch) => run_one(Direction::Encrypt, engine, batch),
+        Call::Decrypt(batch) => run_one(Direction::Decrypt, engine, batch),
     }
 }
 

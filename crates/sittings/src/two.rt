@@ -9,20 +9,6 @@ use cipher::params::Params;
 use engines::engine::Engine;
 use files::reading::read;
 
-// Runs one list on one engine, and the other list on the other.
-fn run_lists<E: Engine, F: Engine>(
-    first: &mut E,
-    list: &mut [Entry<'_, E::Wire>],
-    second: &mut F,
-    other: &mut [Entry<'_, F::Wire>],
-)
-    ensures first { Run E.means E.lanes (E.acct first.old) list.old list.new (E.acct first.new) }
-    ensures second { Run F.means F.lanes (F.acct second.old) other.old other.new (F.acct second.new) }
-{
-    run(first, list);
-    run(second, other);
-}
-
 // Runs one list on one engine and the other list on the other, and reads the file; the answer is the file's.
 pub fn run_two<E: Engine, F: Engine>(
     first: &mut E,
@@ -35,6 +21,7 @@ pub fn run_two<E: Engine, F: Engine>(
 ) -> Result<Params, Fault>
     ensures { Sitting E.means E.lanes (E.acct first.old) (E.acct first.new) list.old list.new F.means F.lanes (F.acct second.old) (F.acct second.new) other.old other.new file.now words.old witness.old words.new witness.new result }
 {
-    run_lists(first, list, second, other);
+    run(first, list);
+    run(second, other);
     read(file, words, witness)
 }

@@ -1,15 +1,10 @@
-use Rattle.std.proofs.Common.{map, refl, ◌∙◌, arith, rules}
-use Rattle.cipher.proofs.Triples.{substitution_more, substitution_none}
+use Rattle.std.proofs.Common.{map, ◌∙◌, arith, rules}
 use Rattle.batches.specs.Lanes.{lane}
+use Rattle.batches.proofs.Boxes.{along_more, along_none}
 use Rattle.batches.proofs.gates.substitute.Goals as goal
 
 pub loop-t-init : goal.loop-t-init
-loop-t-init g c = ((λ j. substitution_none _), search rules)
-
-pub substitute_triple-requires : goal.substitute_triple-requires
-substitute_triple-requires g c =
-    let s = c.loop-t.invariant.1 in
-    record { place = omega arith; gates = omega (arith, s.done, s.granted, c.requires.gates) }
+loop-t-init g c = ((λ j. along_none c.args.way _), search rules)
 
 pub loop-t-preserved : goal.loop-t-preserved
 loop-t-preserved g c =
@@ -18,7 +13,7 @@ loop-t-preserved g c =
     let s = c.loop-t.invariant.1 in
     let u = c.substitute_triple.ensures.spent in (
       (λ j. c.substitute_triple.ensures.lanes j
-          ∙ substitution_more t (lane j (map m c.args.cells.now)) (lane j (map m c.loop-t.cells)) _ _ _ (c.loop-t.invariant.0 j) refl refl refl),
+          ∙ along_more c.args.way t (lane j (map m c.args.cells.now)) (lane j (map m c.loop-t.cells)) (c.loop-t.invariant.0 j)),
       record {
         room = omega (arith, s.room, s.done, s.granted, u.room);
         done = omega (arith, s.done, u.done);

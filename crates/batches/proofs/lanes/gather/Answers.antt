@@ -1,14 +1,7 @@
 use Rattle.std.proofs.Common.{◌≡◌, ◌+◌, ◌-◌, ◌*◌, ◌^◌, take, drop, ap, ◌∙◌, arith}
 use Rattle.bits.specs.Gf2.{dot, value}
-use Rattle.bits.proofs.Vectors.{row_ends}
 use Rattle.batches.proofs.Packing.{gather_more}
 use Rattle.batches.proofs.lanes.gather.Goals as goal
-
-pub offset_bounds-blocks-start : goal.offset_bounds-blocks-start
-offset_bounds-blocks-start c = omega (arith, row_ends c.loop-j.j c.args.count c.args.w (omega arith))
-
-pub slice_bounds-bit-end : goal.slice_bounds-bit-end
-slice_bounds-bit-end c = omega (arith, row_ends c.loop-j.j c.args.count c.args.w (omega arith))
 
 pub loop-j-preserved : goal.loop-j-preserved
 loop-j-preserved c =

@@ -1,10 +1,8 @@
 use Rattle.std.proofs.Common.{◌≡◌, ◌/◌, ◌%◌, ◌^◌, ◌<◌, map, length, sym, refl, ap, ◌∙◌, arith}
 use lib.ListN.{length-map}
-use Rattle.std.proofs.lemmas.List.{take_all}
 use Rattle.bits.proofs.Products.{dot_comm}
 use Rattle.bits.proofs.Rank.{dot_power}
 use Rattle.bits.proofs.Vectors.{value_cleared}
-use Rattle.batches.specs.Lanes.{lane}
 use Rattle.batches.proofs.Packing.{lane_more, read_map}
 use Rattle.batches.proofs.lanes.read_lane.Goals as goal
 
@@ -22,10 +20,3 @@ loop-i-preserved g c =
     let n : length ms ≡ length xs = length-map xs m in
     lane_more ms c.loop-i.block i (2 ^ j) (c.read.result / 2 ^ j % 2) (omega arith) (omega arith) c.loop-i.invariant
     (ap (λ x. x / 2 ^ j % 2) (c.read.ensures ∙ read_map m xs i _ lt c.index-cells-i.is) ∙ sym (dot_power j _) ∙ dot_comm (2 ^ j) _)
-
-pub returns : goal.returns
-returns g c =
-    let m = g.E.Engine.means in
-    let xs = c.args.cells.now in
-    let n : length (map m xs) ≡ length xs = length-map xs m in
-    c.loop-i.invariant ∙ ap (lane c.args.j) (take_all c.loop-i.i (map m xs) (omega arith))

@@ -6,12 +6,6 @@ use Rattle.batches.specs.Lanes.{columns}
 use Rattle.batches.proofs.Packing.{unload_more}
 use Rattle.batches.proofs.lanes.unload.Goals as goal
 
-pub offset_bounds-blocks-start : goal.offset_bounds-blocks-start
-offset_bounds-blocks-start g c = omega (arith, row_ends c.loop-j.j c.args.count c.args.w (omega arith))
-
-pub slice_bounds-read_lane-end : goal.slice_bounds-read_lane-end
-slice_bounds-read_lane-end g c = omega (arith, row_ends c.loop-j.j c.args.count c.args.w (omega arith))
-
 pub loop-j-preserved : goal.loop-j-preserved
 loop-j-preserved g c =
     let m = g.E.Engine.means in

@@ -4,24 +4,24 @@ use Rattle.cipher.specs.Parameters.{block_words_of, key_words_of}
 use Rattle.cipher.proofs.Bounds.{roomy}
 use Rattle.cipher.proofs.Passes.{decrypted, unround_at, unrounds_more}
 use Rattle.batches.specs.Lanes.{lane}
-use Rattle.batches.proofs.Turns.{constant_below, first_lane, gates_all, gates_left, gates_more}
+use Rattle.batches.proofs.Turns.{constant_below, first_lane, gates_left, gates_more}
 use Rattle.batches.proofs.rounds.decrypt_wires.Goals as goal
 
-pub backward-requires : goal.backward-requires
-backward-requires g c =
+pub backward-requires-clause-keyed : goal.backward-requires-clause-keyed
+backward-requires-clause-keyed g c =
     let p = c.args.p in
     let t = c.requires.sound in
-    let i = p.r - 1 - c.loop-i.i in
-    let f = roomy p t.lawful.limits i (omega arith) c.at_round.result (block_words_of p) (key_words_of p) (length c.args.words.now) c.at_round.ensures refl refl t.room in
-    record {
-      wires = (omega arith, omega arith, c.requires.wires.2, omega (arith, c.requires.wires.3));
-      inverse = f.inverse;
-      constant = f.constant;
-      keyed = f.key;
-      narrow = constant_below p c.args.words.now t.lawful i (omega arith) c.at_round.result c.at_round.ensures;
-      triples = t.lawful.limits.m_most;
-      gates = gates_left c.loop-i.i p.r p.m _ _ (omega arith) c.requires.gates c.loop-i.invariant.1;
-    }
+    (roomy p t.lawful.limits (p.r - 1 - c.loop-i.i) (omega arith) c.at_round.result (block_words_of p) (key_words_of p) (length c.args.words.now) c.at_round.ensures refl refl t.room).key
+
+pub backward-requires-clause-narrow : goal.backward-requires-clause-narrow
+backward-requires-clause-narrow g c =
+    let p = c.args.p in
+    constant_below p c.args.words.now c.requires.sound.lawful (p.r - 1 - c.loop-i.i) (omega arith) c.at_round.result c.at_round.ensures
+
+pub backward-requires-clause-gates : goal.backward-requires-clause-gates
+backward-requires-clause-gates g c =
+    let p = c.args.p in
+    gates_left c.loop-i.i p.r p.m _ _ (omega arith) c.requires.gates c.loop-i.invariant.1
 
 pub loop-i-preserved : goal.loop-i-preserved
 loop-i-preserved g c =
@@ -39,17 +39,13 @@ loop-i-preserved g c =
       gates_more i p.m _ _ _ c.loop-i.invariant.1 c.backward.ensures.spent,
     )
 
-pub returns : goal.returns
-returns g c =
+pub returns-clause-lanes : goal.returns-clause-lanes
+returns-clause-lanes g c j h =
     let m = g.E.Engine.means in
     let p = c.args.p in
     let ws = c.args.words.now in
     let e : c.loop-i.i ≡ p.r = omega arith in
-    record {
-      lanes = λ j h.
-          let s = lane j (map m c.loop-i.state) in
-          decrypted p ws c.loop-i.i (lane j (map m c.args.key.now)) s (lane j (map m c.add_wires.new.to)) (lane j (map m c.args.state.now)) e (c.loop-i.invariant.0 j h)
-          (c.add_wires.ensures (2 ^ j) ∙ ap (bit_xor s) (first_lane p ws c.key_words.result _ c.keys_from.result (2 ^ j) (map m c.args.key.now) (map m c.product.new.to)
-          c.key_words.ensures (omega arith) c.keys_from.ensures c.product.ensures));
-      spent = gates_all c.loop-i.i p.r p.m _ _ e c.loop-i.invariant.1;
-    }
+    let s = lane j (map m c.loop-i.state) in
+    decrypted p ws c.loop-i.i (lane j (map m c.args.key.now)) s (lane j (map m c.add_wires.new.to)) (lane j (map m c.args.state.now)) e (c.loop-i.invariant.0 j h)
+    (c.add_wires.ensures (2 ^ j) ∙ ap (bit_xor s) (first_lane p ws c.key_words.result _ c.keys_from.result (2 ^ j) (map m c.args.key.now) (map m c.product.new.to)
+    c.key_words.ensures (omega arith) c.keys_from.ensures c.product.ensures))

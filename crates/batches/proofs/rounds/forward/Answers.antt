@@ -3,15 +3,12 @@ use Rattle.cipher.specs.Parameters.{block_words_of, key_words_of}
 use Rattle.batches.proofs.Turns.{forward_lane}
 use Rattle.batches.proofs.rounds.forward.Goals as goal
 
-pub returns : goal.returns
-returns g c =
+pub returns-clause-lanes : goal.returns-clause-lanes
+returns-clause-lanes g c j h =
     let m = g.E.Engine.means in
     let p = c.args.p in
     let at = c.args.at in
-    record {
-      lanes = λ j h. forward_lane (block_words_of p) (key_words_of p) p.n p.m at.layer at.constant at.key c.args.words.now (map m c.args.key.now) (2 ^ j) _ _ _ _ _ _ _
-          (map m c.substitute.new.cells) (map m c.product.new.to) (map m c.product-2.new.to)
-          c.block_words-w.ensures (omega arith) (omega arith) c.key_words.ensures (c.substitute.ensures.lanes j) c.product.ensures c.product-2.ensures
-          (c.add_wires.ensures (2 ^ j)) (c.add_constant.ensures j h);
-      spent = c.substitute.ensures.spent;
-    }
+    forward_lane (block_words_of p) (key_words_of p) p.n p.m at.layer at.constant at.key c.args.words.now (map m c.args.key.now) (2 ^ j) _ _ _ _ _ _ _
+    (map m c.substitute.new.cells) (map m c.product.new.to) (map m c.product-2.new.to)
+    c.block_words-w.ensures (omega arith) (omega arith) c.key_words.ensures (c.substitute.ensures.lanes j) c.product.ensures c.product-2.ensures
+    (c.add_wires.ensures (2 ^ j)) (c.add_constant.ensures j h)

@@ -1,15 +1,10 @@
 use Rattle.std.proofs.Common.{◌≡◌, ◌%◌, ◌^◌, ◌<◌, map, length, sym, ap, ◌∙◌, mod-eq_of_lt, arith}
-use lib.Bits.{bit_xor, xor_zero_r}
+use lib.Bits.{bit_xor}
 use Rattle.bits.specs.Gf2.{value}
 use Rattle.bits.proofs.Products.{dot_below}
 use Rattle.batches.specs.Lanes.{lane}
 use Rattle.batches.proofs.Packing.{constant_more, read_map, spread_bit}
 use Rattle.batches.proofs.wires.add_constant.Goals as goal
-
-pub loop-i-init : goal.loop-i-init
-loop-i-init g c j h =
-    let z : value c.args.constant.now % 2 ^ 0 ≡ 0 = omega arith in
-    sym (ap (bit_xor _) z ∙ xor_zero_r _)
 
 pub loop-i-preserved : goal.loop-i-preserved
 loop-i-preserved g c j h =
@@ -19,7 +14,7 @@ loop-i-preserved g c j h =
     let x = value c.args.constant.now in
     let hx : i < length xs = omega arith in
     constant_more m.means xs i c.add.result hx x (m.means c.enter-c.result) j (lane j (map m.means c.args.to.now))
-    (c.add.ensures ∙ ap (λ y. bit_xor y (m.means c.enter-c.result)) (read_map m.means xs i _ hx c.index-to-i.is))
+    (c.add.ensures ∙ ap (λ y. bit_xor y (m.means c.enter-c.result)) (ap m.means (sym c.index-to-i.is) ∙ read_map m.means xs i _ hx c.index-to-i.is))
     (spread_bit m.lanes j _ _ (dot_below (2 ^ i) x) h m.few.1 (c.enter-c.ensures ∙ ap (λ y. y % 2 ^ m.lanes) c.spread.ensures))
     (c.loop-i.invariant j h)
 

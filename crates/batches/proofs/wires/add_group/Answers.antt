@@ -1,29 +1,17 @@
-use Rattle.std.proofs.Common.{◌≡◌, ℕ, ◌+◌, ◌*◌, ◌/◌, ◌%◌, ◌^◌, ◌<◌, ◌≤◌, map, length, get_or, drop, ap, ◌∙◌, ap₂, mod-lt, arith, pow_pos}
+use Rattle.std.proofs.Common.{◌≡◌, ℕ, ◌+◌, ◌*◌, ◌/◌, ◌%◌, ◌^◌, ◌<◌, ◌≤◌, map, length, get_or, drop, sym, ap, ◌∙◌, ap₂, mod-lt, arith, pow_pos}
 use lib.Bits.{bit_xor}
 use Rattle.std.proofs.lemmas.Nat.{shl_whole}
 use Rattle.bits.specs.Gauss.{row_at}
 use Rattle.bits.proofs.Vectors.{row_ends}
-use Rattle.batches.proofs.Packing.{filled, group_bits, group_place, group_step, read_map, same_past, some_groups}
+use Rattle.batches.proofs.Packing.{group_bits, group_place, group_step, read_map, same_past, some_groups}
 use Rattle.batches.proofs.wires.add_group.Goals as goal
 
 -- where the group begins
 place : (b g : ℕ) → b * (64 / b) ≡ 64 → (64 * (g / (64 / b)) + b * (g % (64 / b)) ≡ b * g) × (b * (g % (64 / b)) + b ≤ 64)
 place b g e = group_place b (64 / b) g e (some_groups b (64 / b) e)
 
-pub overflow_add-pick : goal.overflow_add-pick
-overflow_add-pick g c = omega (arith, row_ends c.loop-i.i (length c.args.to.now) c.args.w (omega arith), c.requires.fits, c.requires.place, place c.args.b c.args.g c.requires.whole.2)
-
-pub overflow_add-pick-in-loop-i : goal.overflow_add-pick-in-loop-i
-overflow_add-pick-in-loop-i g c = omega (arith, row_ends c.loop-i.i (length c.args.to.now) c.args.w (omega arith), c.requires.fits, c.requires.place, place c.args.b c.args.g c.requires.whole.2)
-
-pub offset_bounds-words-at : goal.offset_bounds-words-at
-offset_bounds-words-at g c = omega (arith, row_ends c.loop-i.i (length c.args.to.now) c.args.w (omega arith), c.requires.fits, c.requires.place, place c.args.b c.args.g c.requires.whole.2)
-
 pub bounds-words-at : goal.bounds-words-at
 bounds-words-at g c = omega (arith, row_ends c.loop-i.i (length c.args.to.now) c.args.w (omega arith), c.requires.fits, c.requires.place, place c.args.b c.args.g c.requires.whole.2)
-
-pub overflow_shr-pick : goal.overflow_shr-pick
-overflow_shr-pick g c = omega (arith, place c.args.b c.args.g c.requires.whole.2, c.requires.whole.0)
 
 pub loop-i-preserved : goal.loop-i-preserved
 loop-i-preserved g c =
@@ -48,13 +36,5 @@ loop-i-preserved g c =
     ∙ group_bits ws at w i b q k (length from) (λ j. omega (arith, c.type_inv.words j)) (omega arith) c.requires.fits whole (some_groups b q whole) (omega (arith, p, c.requires.place)) in
     let few : row_at w (drop at ws) i / 2 ^ (b * k) % 2 ^ b < 2 ^ b = mod-lt _ (pow_pos b) in
     group_step m xs from i c.add.result (λ j. bit_xor (get_or (map m from) j 0) (get_or (map m sums) (row_at w (drop at ws) j / 2 ^ (b * k) % 2 ^ b) 0)) lt c.loop-i.invariant.0 c.loop-i.invariant.1
-    (c.add.ensures ∙ ap₂ bit_xor (same_past m xs from i _ lt c.index-to-i.is c.loop-i.invariant.1)
+    (c.add.ensures ∙ ap₂ bit_xor (ap m (sym c.index-to-i.is) ∙ same_past m xs from i _ lt c.index-to-i.is c.loop-i.invariant.1)
     (read_map m sums pick _ (omega (arith, is, few, c.requires.room)) c.index-sums-pick.is ∙ ap (λ p. get_or (map m sums) p 0) is))
-
-pub returns : goal.returns
-returns g c =
-    let m = g.E.Engine.means in
-    let from = c.args.to.now in
-    filled m c.loop-i.to c.loop-i.i (length from)
-    (λ j. bit_xor (get_or (map m from) j 0) (get_or (map m c.args.sums.now) (row_at c.args.w (drop c.args.at c.args.words.now) j / 2 ^ (c.args.b * c.args.g) % 2 ^ c.args.b) 0))
-    (omega arith) (omega arith) c.loop-i.invariant.0

@@ -1,13 +1,9 @@
-use Rattle.std.proofs.Common.{◌≡◌, ℕ, ◌<◌, List, map, length, sym, ap, ◌∙◌, ap₂, arith}
-use lib.Bits.{bit_xor, xor_zero_r}
+use Rattle.std.proofs.Common.{◌≡◌, ◌<◌, map, length, sym, ap, ◌∙◌, ap₂, arith}
+use lib.Bits.{bit_xor}
 use lib.ListN.{length-map}
-use Rattle.std.proofs.lemmas.List.{take_all}
 use Rattle.bits.specs.Gf2.{mul}
 use Rattle.batches.proofs.Packing.{read_map, wires_more}
 use Rattle.batches.proofs.wires.add_wires.Goals as goal
-
-pub loop-i-init : goal.loop-i-init
-loop-i-init g c v = sym (xor_zero_r _)
 
 pub loop-i-preserved : goal.loop-i-preserved
 loop-i-preserved g c v =
@@ -19,11 +15,4 @@ loop-i-preserved g c v =
     let hy : i < length ys = omega arith in
     let n : length (map m ys) ≡ length ys = length-map ys m in
     wires_more m xs i c.add.result hx (map m ys) v (mul (map m c.args.to.now) v) (omega arith)
-    (c.add.ensures ∙ ap₂ bit_xor (read_map m xs i _ hx c.index-to-i.is) (read_map m ys i _ hy c.index-from-i.is)) (c.loop-i.invariant v)
-
-pub returns : goal.returns
-returns g c v =
-    let m = g.E.Engine.means in
-    let ys = c.args.from.now in
-    let n : length (map m ys) ≡ length ys = length-map ys m in
-    c.loop-i.invariant v ∙ ap (λ (l : List ℕ). bit_xor (mul (map m c.args.to.now) v) (mul l v)) (take_all c.loop-i.i (map m ys) (omega arith))
+    (c.add.ensures ∙ ap₂ bit_xor (ap m (sym c.index-to-i.is) ∙ read_map m xs i _ hx c.index-to-i.is) (read_map m ys i _ hy c.index-from-i.is)) (c.loop-i.invariant v)

@@ -1,26 +1,26 @@
-use Rattle.std.proofs.Common.{◌≡◌, true, false, Err, sym, ap, ◌∙◌}
+use Rattle.std.proofs.Common.{◌≡◌, true, false, Err, Some, None, sym, ap, ◌∙◌, arith, rules}
+use borrow.Author.Tests.{tests, eqb-true, eqb-false}
+use Rattle.std.proofs.lemmas.Iterator.{first_from_Range}
 use Rattle.bits.specs.declared.refusal.Fault.{Fault}
 use Rattle.engines.specs.Triples.{triple_of, truth}
-use Rattle.engines.proofs.Filling.{at_false, first_false, more_true, past_true}
+use Rattle.engines.proofs.Filling.{first_false, none_false}
 use Rattle.engines.proofs.share.check_triples.Goals as goal
 
-pub returns-then-not-is_true : goal.returns-then-not-is_true
-returns-then-not-is_true c =
+pub returns-in-Some : goal.returns-in-Some
+returns-in-Some c =
     let t = c.args.tape.now in
-    let j = c.loop-j.j in
-    let n = c.args.n in
-    let h = c.loop-j-test.true in
-    let no : truth (triple_of t j) ≡ false =
-    ap truth (sym c.triple_at.ensures) ∙ sym c.is_true.ensures ∙ c.if-not-is_true.true in
+    let j = c.in-Some.j in
+    let found = first_from_Range _ _ _ (Some j) (λ k. truth (triple_of t k) ≡ false) (λ k. truth (triple_of t k) ≡ true) c.in-Some.ensures.ran (λ x q k. search (rules, tests)) (λ x q k. search (rules, tests)) in
     record {
-      answer = ap Err c.at.ensures ∙ sym (at_false t j n h no) ∙ c.loop-j.invariant.1;
-      meaning = first_false t j n c.at.result.place (ap (λ (f : Fault). f.place) c.at.ensures) h c.loop-j.invariant.0 no;
+      answer = ap Err c.at.ensures ∙ sym (first_false t j c.args.n found.1 (λ k. found.3 k (omega arith)) found.2);
+      meaning = rw (ap (λ (f : Fault). f.place) c.at.ensures) (λ k l. eqb-true _ _ (found.3 k (omega arith) l), found.1, eqb-false _ _ found.2);
     }
 
-pub loop-j-preserved : goal.loop-j-preserved
-loop-j-preserved c =
+pub returns-in-None : goal.returns-in-None
+returns-in-None c =
     let t = c.args.tape.now in
-    let j = c.loop-j.j in
-    let yes : truth (triple_of t j) ≡ true =
-    ap truth (sym c.triple_at.ensures) ∙ sym c.is_true.ensures ∙ c.if-not-is_true.false in
-    (more_true t j c.loop-j.invariant.0 yes, sym (past_true t j c.args.n c.loop-j-test.true yes) ∙ c.loop-j.invariant.1)
+    let found = first_from_Range _ _ _ None (λ k. truth (triple_of t k) ≡ false) (λ k. truth (triple_of t k) ≡ true) c.in-None.ensures.ran (λ x q k. search (rules, tests)) (λ x q k. search (rules, tests)) in
+    record {
+      answer = sym (none_false t c.args.n (λ k. found k (omega arith)));
+      meaning = λ k l. eqb-true _ _ (found k (omega arith) l);
+    }

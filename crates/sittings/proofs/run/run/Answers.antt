@@ -1,4 +1,4 @@
-use Rattle.std.proofs.Common.{◌<◌, ◌≤◌, length, arith, take_all}
+use Rattle.std.proofs.Common.{◌<◌, length, arith}
 use Rattle.sittings.proofs.Walk.{run_more, walk_rest}
 use Rattle.sittings.proofs.run.run.Goals as goal
 
@@ -16,12 +16,3 @@ loop-x-preserved g c =
       run_more m.means m.lanes (m.acct c.args.engine.now) (m.acct c.loop-x.engine) (m.acct c.answer.new.engine) xs ys i
           c.x-item.result c.answer.new.entry h k v.1 v.2 c.answer.ensures,
     )
-
-pub returns : goal.returns
-returns g c =
-    let xs = c.args.list.now in
-    let ys = c.loop-x.list in
-    let i = c.loop-x.x-index in
-    let p : length xs ≤ i = omega arith in
-    let q : length ys ≤ i = omega arith in
-    rw (take_all i xs p, take_all i ys q) at c.loop-x.invariant.2
