@@ -8,7 +8,8 @@ use Rattle.bits.proofs.Rank.{dot_power}
 use Rattle.cipher.specs.declared.direction.Direction.{Direction}
 use Rattle.cipher.specs.declared.direction.Direction.TheVariants.{Encrypt, Decrypt}
 use Rattle.cipher.proofs.Triples.{substitution_more, substitution_none, unsubstitution_more, unsubstitution_none}
-use Rattle.batches.specs.Lanes.{box_along, box_at, lane, substitution_along, unbox_at}
+use Rattle.cipher.specs.Boxes.{boxes}
+use Rattle.batches.specs.Lanes.{box_along, box_at, lane, unbox_at}
 use Rattle.batches.proofs.Packing.{bit_of_mul, map_mul_set}
 
 -- ---- one bit of a sum and of a product
@@ -112,10 +113,10 @@ module _ {X : Type 0} (f : X → ℕ) (xs : List X) (k : ℕ) (h : k + 2 < lengt
 
 -- ---- in either direction, triple by triple
 
-pub along_none : (way : Direction) (x : ℕ) → x ≡ substitution_along way 0 x
+pub along_none : (way : Direction) (x : ℕ) → x ≡ boxes way 0 x
 along_none Encrypt = substitution_none
 along_none Decrypt = unsubstitution_none
 
-pub along_more : (way : Direction) (t s v : ℕ) → v ≡ substitution_along way t s → box_along way (3 * t) v ≡ substitution_along way (t + 1) s
+pub along_more : (way : Direction) (t s v : ℕ) → v ≡ boxes way t s → box_along way (3 * t) v ≡ boxes way (t + 1) s
 along_more Encrypt t s v e = substitution_more t s v _ _ _ e refl refl refl
 along_more Decrypt t s v e = unsubstitution_more t s v _ _ _ e refl refl refl

@@ -1,18 +1,18 @@
 -- Wires as rows of a matrix: the steps of the loops that pack, multiply, add and unpack.
-use Rattle.std.proofs.Common.{◌≡◌, ℕ, zero, suc, ◌+◌, ◌-◌, ◌*◌, ◌/◌, ◌%◌, ◌^◌, ◌<◌, ◌≤◌, min, ◌≢◌, ◌⊎◌, List, [], ◌∷◌, ◌++◌, map, length, get_or, take, drop, set, replicate, sym, refl, ap, ◌∙◌, subst, ap₂, mod-lt, mod-eq_of_lt, mul_assoc, mul_comm, mul-le-mul_left, one-mul, pow-suc, mul-zero, zero-mul, mul-add, mul_left_comm, add-one, arith, length-drop, length-take, pow_pos, pow_mono, inl, inr, length-append}
+use Rattle.std.proofs.Common.{◌≡◌, ℕ, zero, suc, ◌+◌, ◌-◌, ◌*◌, ◌/◌, ◌%◌, ◌^◌, ◌<◌, ◌≤◌, min, ◌≢◌, ◌⊎◌, List, [], ◌∷◌, ◌++◌, map, length, get_or, take, drop, set, replicate, sym, refl, ap, ◌∙◌, subst, ap₂, mod-lt, mod-eq_of_lt, mul_assoc, mul_comm, mul-le-mul_left, one-mul, pow-suc, mul-zero, zero-mul, mul-add, mul_left_comm, add-one, arith, pow_pos, pow_mono, inl, inr, length-append}
 use native.Mathlib.Decide.{dec_le, ℕ_discrete}
 use native.Mathlib.Nat.{add-mul-mod_self_left, div-add-mod, mod-add-div}
 use lib.Bits.{bit_or, bit_xor, or_shifted_r, xor_assoc, xor_self, xor_zero_l, xor_zero_r}
 use lib.ListN.{length-map}
 use borrow.Rule.Slice.PartMut.{put_mid}
-use Rattle.std.proofs.lemmas.List.{append-nil, drop_at, map-append, nil_from_length, take_more, take_more_set, map_push, map-set, length_push, length-take-le, drop_more, drop_all, drop-drop, drop-map, drop-set-lt, get_or-drop, get_or-set_other, get_or-set_same, get_or-take, get_or-map, get_or_push, get_or_append_left, replicate_more}
+use Rattle.std.proofs.lemmas.List.{append-nil, drop_at, map-append, nil_from_length, take_more, take_more_set, map_push, map-set, length_push, length-take-le, drop_more, drop_all, drop-drop, drop-map, drop-set-lt, get_or-drop, get_or-set_other, get_or-set_same, get_or-map, get_or_push, get_or_append_left, replicate_more}
 use Rattle.std.proofs.lemmas.Slice.{take-put_mid_below, between-put_mid}
 use Rattle.std.proofs.lemmas.Nat.{field_of, mod-pow-add, pow-add, shl_whole, shr-shr}
 use Rattle.bits.specs.Gf2.{Below, Words, comb, dot, mul, rows, value}
 use Rattle.bits.specs.Gauss.{row_at}
 use Rattle.bits.proofs.Products.{dot_below, dot_comm, dot_xor, dot_zero_l, dot_zero_r, mul_below, pow_step, xor_cons}
 use Rattle.bits.proofs.Rank.{dot_double, dot_one, dot_power}
-use Rattle.bits.proofs.Vectors.{length_rows, row_ends, rows_more, rows_prefix, value_bit, value_high, words_drop, words_take}
+use Rattle.bits.proofs.Vectors.{length_rows, rows_more, rows_prefix, value_bit, value_high}
 use Rattle.cipher.specs.Instances.{times}
 use Rattle.batches.specs.Lanes.{columns, lane, table}
 
@@ -272,7 +272,8 @@ group_place b c g e h =
     let r : b * (g % c + 1) ≡ b * (g % c) + b = mul-add b (g % c) 1 ∙ omega arith in
     (omega arith, omega arith)
 
-group_word : (ws : List ℕ) (b c g : ℕ) → Words ws → b * c ≡ 64 → 0 < c → g / c < length ws
+-- a group of bits of a row, which is read in one of its words
+pub group_word : (ws : List ℕ) (b c g : ℕ) → Words ws → b * c ≡ 64 → 0 < c → g / c < length ws
     → get_or ws (g / c) 0 / 2 ^ (b * (g % c)) % 2 ^ b ≡ value ws / 2 ^ (b * g) % 2 ^ b
 group_word ws b c g f whole some h =
     let q : ℕ = g / c in
@@ -282,18 +283,6 @@ group_word ws b c g f whole some h =
     ∙ ap (λ (y : ℕ). y % 2 ^ b) (sym (shr-shr (value ws) (64 * q) s))
     ∙ ap (λ (y : ℕ). y / 2 ^ s % 2 ^ b) (sym (value_high q ws f (omega arith)) ∙ ap value (drop_more ws q 0 h))
     ∙ low_field b (get_or ws q 0) (value (drop (q + 1) ws)) s p.1)
-
--- and of row i of a matrix at a place
-pub group_bits : (words : List ℕ) (at w i b c g n : ℕ) → Words words → i < n → at + n * w ≤ length words → b * c ≡ 64 → 0 < c → g / c < w
-    → get_or words (at + i * w + g / c) 0 / 2 ^ (b * (g % c)) % 2 ^ b ≡ row_at w (drop at words) i / 2 ^ (b * g) % 2 ^ b
-group_bits words at w i b c g n f l room whole some q =
-    let row : List ℕ = take w (drop (i * w) (drop at words)) in
-    let ends = row_ends i n w l in
-    let long : length row ≡ w = simp (length-take, length-drop) (omega arith) in
-    let is : get_or row (g / c) 0 ≡ get_or words (at + i * w + g / c) 0 =
-    get_or-take w (drop (i * w) (drop at words)) (g / c) 0 q ∙ ap (λ (l : List ℕ). get_or l (g / c) 0) (drop-drop (i * w) at words) ∙ get_or-drop (at + i * w) words (g / c) 0 in
-    ap (λ (x : ℕ). x / 2 ^ (b * (g % c)) % 2 ^ b) (sym is)
-    ∙ group_word row b c g (words_take w (drop (i * w) (drop at words)) (words_drop (i * w) (drop at words) (words_drop at words f))) whole some (omega arith)
 
 -- wire i has its sum, and those after it are as before
 pub group_step : {X : Type 0} (f : X → ℕ) (xs ys : List X) (i : ℕ) (x : X) (g : ℕ → ℕ) → i < length xs → map f (take i xs) ≡ table i g → drop i xs ≡ drop i ys → f x ≡ g i

@@ -3,7 +3,6 @@ use Rattle.std.specs.Prelude.{ℕ, zero, suc, ◌+◌, ◌*◌, ◌^◌, List, [
 use Rattle.bits.specs.Gf2.{dot, mul}
 use Rattle.cipher.specs.declared.direction.Direction.{Direction}
 use Rattle.cipher.specs.declared.direction.Direction.TheVariants.{Encrypt, Decrypt}
-use Rattle.cipher.specs.LowMC.{substitution, unsubstitution}
 
 -- lane j of wires: the column j
 abbrev pub lane : ℕ → List ℕ → ℕ
@@ -38,8 +37,3 @@ unbox_at k v =
 abbrev pub box_along : Direction → ℕ → ℕ → ℕ
 box_along Encrypt = box_at
 box_along Decrypt = unbox_at
-
--- the same of whole layers
-abbrev pub substitution_along : Direction → ℕ → ℕ → ℕ
-substitution_along Encrypt = substitution
-substitution_along Decrypt = unsubstitution

@@ -4,7 +4,6 @@ ghost use Rattle.bits.specs.Gf2.{Below, flat, rows};
 ghost use Rattle.cipher.specs.LowMC.{decrypt as deciphered, encrypt as enciphered};
 ghost use Rattle.cipher.specs.Parameters.{block_words_of, gates_of, key_words_of};
 ghost use Rattle.cipher.specs.Instances.{set_in};
-ghost use Rattle.cipher.specs.Sound.{TrueInverses};
 ghost use Rattle.cipher.specs.Holds.{held_by};
 ghost use Rattle.cipher.specs.Directions.{along};
 ghost use Rattle.engines.specs.Accounts.{Spent};
@@ -18,6 +17,7 @@ use bits::matrix::Matrix;
 use bits::refusal::{Fault, Layer, Refusal};
 use cipher::direction::Direction;
 use cipher::instance::Instance;
+use cipher::opened::Opened;
 use cipher::params::Params;
 use cipher::stray::first_in_rows;
 use engines::engine::{Account, Engine};
@@ -67,22 +67,21 @@ fn check_batch(
 fn run_wires<E: Engine>(
     way: Direction,
     e: &mut E,
-    words: &[u64],
-    p: Params,
+    opened: Opened<'_>,
     key: &[E::Wire],
     state: &mut [E::Wire],
     spare: &mut [E::Wire],
     sums: &mut [E::Wire],
 )
-    requires sound { TrueInverses p words.now }
-    requires wires { (length state.old ≡ p.n) × (length spare.old ≡ p.n) × (length key.now ≡ p.k) × (2 ≤ length sums.old) }
-    requires gates { (E.acct e.old).done + gates_of p ≤ (E.acct e.old).granted }
-    ensures lanes { (j : ℕ) → j < E.lanes → lane j (map E.means state.new) ≡ along way (set_in p words.now) (lane j (map E.means key.now)) (lane j (map E.means state.old)) }
-    ensures spent { Spent (E.acct e.old) (gates_of p) (E.acct e.new) }
+    requires wires { (length state.old ≡ opened.set.params.n) × (length spare.old ≡ opened.set.params.n) × (length key.now ≡ opened.set.params.k) × (2 ≤ length sums.old) }
+    requires gates { (E.acct e.old).done + gates_of opened.set.params ≤ (E.acct e.old).granted }
+    ensures lanes { (j : ℕ) → j < E.lanes → lane j (map E.means state.new) ≡ along way (set_in opened.entry.set.params opened.entry.set.words.now) (lane j (map E.means key.now)) (lane j (map E.means state.old)) }
+    ensures spent { Spent (E.acct e.old) (gates_of opened.entry.set.params) (E.acct e.new) }
 {
+    // A switch and no closure: a closure's contract would say all of both.
     match way {
-        Direction::Encrypt => encrypt_wires(e, words, p, key, state, spare, sums),
-        Direction::Decrypt => decrypt_wires(e, words, p, key, state, spare, sums),
+        Direction::Encrypt => encrypt_wires(e, opened, key, state, spare, sums),
+        Direction::Decrypt => decrypt_wires(e, opened, key, state, spare, sums),
     }
 }
 
@@ -90,31 +89,30 @@ fn run_wires<E: Engine>(
 fn run_cells<E: Engine>(
     way: Direction,
     e: &mut E,
-    words: &[u64],
-    p: Params,
+    opened: Opened<'_>,
     count: usize,
     blocks: &mut [u64],
     keys: &[u64],
     masks: &[u64],
     cells: &mut [E::Wire],
 )
-    requires sound { TrueInverses p words.now }
     requires lanes { count ≤ E.lanes }
-    requires sizes { (length blocks.old ≡ count * block_words_of p) × (length keys.now ≡ count * key_words_of p) }
-    requires narrow { Below p.n (rows (block_words_of p) count blocks.old) × Below p.k (rows (key_words_of p) count keys.now) }
-    requires masks { masks_of p ≤ length masks.now }
-    requires cells { length cells.old ≡ cells_of p }
-    requires gates { (E.acct e.old).done + gates_of p ≤ (E.acct e.old).granted }
-    ensures blocks { blocks.new ≡ flat (block_words_of p) (one_by_one_of (along way (set_in p words.now)) (rows (key_words_of p) count keys.now) (rows (block_words_of p) count blocks.old)) }
-    ensures spent { Spent (E.acct e.old) (gates_of p) (E.acct e.new) }
+    requires sizes { (length blocks.old ≡ count * block_words_of opened.set.params) × (length keys.now ≡ count * key_words_of opened.set.params) }
+    requires narrow { Below opened.set.params.n (rows (block_words_of opened.set.params) count blocks.old) × Below opened.set.params.k (rows (key_words_of opened.set.params) count keys.now) }
+    requires masks { masks_of opened.set.params ≤ length masks.now }
+    requires cells { length cells.old ≡ cells_of opened.set.params }
+    requires gates { (E.acct e.old).done + gates_of opened.set.params ≤ (E.acct e.old).granted }
+    ensures blocks { blocks.new ≡ flat (block_words_of opened.entry.set.params) (one_by_one_of (along way (set_in opened.entry.set.params opened.entry.set.words.now)) (rows (key_words_of opened.entry.set.params) count keys.now) (rows (block_words_of opened.entry.set.params) count blocks.old)) }
+    ensures spent { Spent (E.acct e.old) (gates_of opened.entry.set.params) (E.acct e.new) }
 {
+    let p = opened.set.params;
     let (n, w) = (p.n as usize, p.block_words());
     let (state, more) = cells.split_at_mut(n);
     let (spare, last) = more.split_at_mut(n);
     let (sums, key) = last.split_at_mut(n);
-    load(e, blocks, w, count, masks, state);
-    load(e, keys, p.key_words(), count, &masks[n..], key);
-    run_wires(way, e, words, p, key, state, spare, sums);
+    load(e, Matrix::new(blocks, w, count), masks, state);
+    load(e, Matrix::new(keys, p.key_words(), count), &masks[n..], key);
+    run_wires(way, e, opened, key, state, spare, sums);
     unload(e, state, blocks, w, count);
 }
 
@@ -122,31 +120,28 @@ fn run_cells<E: Engine>(
 fn run_accepted<E: Engine>(
     way: Direction,
     e: &mut E,
-    words: &[u64],
-    p: Params,
+    opened: Opened<'_>,
     count: usize,
     blocks: &mut [u64],
     keys: &[u64],
     masks: &[u64],
     cells: &mut [E::Wire],
 )
-    requires sound { TrueInverses p words.now }
     requires lanes { count ≤ E.lanes }
-    requires sizes { (length blocks.old ≡ count * block_words_of p) × (length keys.now ≡ count * key_words_of p) }
-    requires narrow { Below p.n (rows (block_words_of p) count blocks.old) × Below p.k (rows (key_words_of p) count keys.now) }
-    requires masks { masks_of p ≤ length masks.now }
-    requires cells { cells_of p ≤ length cells.old }
-    requires gates { (E.acct e.old).done + gates_of p ≤ (E.acct e.old).granted }
-    ensures blocks { blocks.new ≡ flat (block_words_of p) (one_by_one_of (along way (set_in p words.now)) (rows (key_words_of p) count keys.now) (rows (block_words_of p) count blocks.old)) }
-    ensures spent { Spent (E.acct e.old) (gates_of p) (E.acct e.new) }
-    ensures cells { Cleared E.means (cells_of p) cells.old cells.new }
+    requires sizes { (length blocks.old ≡ count * block_words_of opened.set.params) × (length keys.now ≡ count * key_words_of opened.set.params) }
+    requires narrow { Below opened.set.params.n (rows (block_words_of opened.set.params) count blocks.old) × Below opened.set.params.k (rows (key_words_of opened.set.params) count keys.now) }
+    requires masks { masks_of opened.set.params ≤ length masks.now }
+    requires cells { cells_of opened.set.params ≤ length cells.old }
+    requires gates { (E.acct e.old).done + gates_of opened.set.params ≤ (E.acct e.old).granted }
+    ensures blocks { blocks.new ≡ flat (block_words_of opened.entry.set.params) (one_by_one_of (along way (set_in opened.entry.set.params opened.entry.set.words.now)) (rows (key_words_of opened.entry.set.params) count keys.now) (rows (block_words_of opened.entry.set.params) count blocks.old)) }
+    ensures spent { Spent (E.acct e.old) (gates_of opened.entry.set.params) (E.acct e.new) }
+    ensures cells { Cleared E.means (cells_of opened.entry.set.params) cells.old cells.new }
 {
-    let used = 3 * p.n as usize + p.k as usize;
+    let used = 3 * opened.set.params.n as usize + opened.set.params.k as usize;
     run_cells(
         way,
         e,
-        words,
-        p,
+        opened,
         count,
         blocks,
         keys,
@@ -172,11 +167,11 @@ pub fn run_batch<E: Engine>(
     ensures leaves { Leaves E.means (held_by held.now) result (E.acct engine.old) (E.acct engine.new) cells.old cells.new }
     ensures stays { is_ok result ≡ false → engine.new ≡ engine.old }
 {
-    let Some((p, words)) = held.held() else {
+    let Some(opened) = held.held() else {
         return Err(Fault::at(Refusal::NoInstance, Layer::Batch, 0));
     };
     check_batch(
-        p,
+        opened.set.params,
         E::lanes_of(),
         engine.account(),
         count,
@@ -185,7 +180,7 @@ pub fn run_batch<E: Engine>(
         masks.len(),
         cells.len(),
     )?;
-    run_accepted(way, engine, words, p, count, blocks, keys, masks, cells);
+    run_accepted(way, engine, opened, count, blocks, keys, masks, cells);
     Ok(())
 }
 

@@ -1,7 +1,8 @@
 // The substitution layer on wires: the only place where gates are spent. Callers have seen to it that enough are granted.
 ghost use Rattle.std.specs.Prelude.{◌≡◌, ℕ, ◌+◌, ◌*◌, ◌<◌, ◌≤◌, map, length, bit_and};
 ghost use Rattle.engines.specs.Accounts.{Spent};
-ghost use Rattle.batches.specs.Lanes.{box_along, lane, substitution_along};
+ghost use Rattle.cipher.specs.Boxes.{boxes};
+ghost use Rattle.batches.specs.Lanes.{box_along, lane};
 
 use cipher::direction::Direction;
 use engines::engine::Engine;
@@ -45,7 +46,7 @@ fn substitute_triple<E: Engine>(way: Direction, e: &mut E, cells: &mut [E::Wire]
 pub(crate) fn substitute<E: Engine>(way: Direction, e: &mut E, cells: &mut [E::Wire], m: usize)
     requires places { 3 * m ≤ length cells.old }
     requires gates { (E.acct e.old).done + 3 * m ≤ (E.acct e.old).granted }
-    ensures lanes { (j : ℕ) → lane j (map E.means cells.new) ≡ substitution_along way m (lane j (map E.means cells.old)) }
+    ensures lanes { (j : ℕ) → lane j (map E.means cells.new) ≡ boxes way m (lane j (map E.means cells.old)) }
     ensures spent { Spent (E.acct e.old) (3 * m) (E.acct e.new) }
 {
     // By index, since what is written through `chunks_exact_mut` is lost to the proof.

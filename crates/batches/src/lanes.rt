@@ -1,42 +1,33 @@
 // Packing blocks into lanes and unpacking them. Only entering and reading wires is asked of an engine here.
 ghost use Rattle.std.specs.Prelude.{◌≡◌, ℕ, ◌*◌, ◌^◌, ◌<◌, ◌≤◌, map, length};
-ghost use Rattle.bits.specs.Gf2.{flat, rows, value};
+ghost use Rattle.bits.specs.Gf2.{flat, value};
+ghost use Rattle.bits.specs.Matrices.{rows_in};
 ghost use Rattle.batches.specs.Lanes.{columns, lane};
 
+use bits::matrix::Matrix;
 use bits::words::{bit, fitting};
 use engines::engine::Engine;
 
-// The word whose bit j is bit `i` of block j.
-fn gather(blocks: &[u64], w: usize, count: usize, i: usize) -> u64
-    requires fits { count * w ≤ length blocks.now }
-    requires lanes { count ≤ 64 }
-    ensures { result ≡ lane i (rows w count blocks.now) }
+// The word whose bit j is bit `i` of block j; the blocks are the rows of a matrix.
+fn gather(blocks: Matrix<'_>, i: usize) -> u64
+    requires { blocks.height ≤ 64 }
+    ensures { result ≡ lane i (rows_in blocks.entry) }
 {
-    // By number, since the lane is also the shift, and `chunks_exact` asks for blocks of at least a word, which is not known here.
     let mut word: u64 = 0;
-    for j in 0..count {
-        let start = j * w;
-        word |= bit(&blocks[start..start + w], i) << j;
+    for (j, block) in blocks.rows().enumerate() {
+        word |= bit(block, i) << j;
     }
     word
 }
 
 // Enters the blocks: wire i has bit i of each, and 0 in the lanes past them.
-pub(crate) fn load<E: Engine>(
-    e: &E,
-    blocks: &[u64],
-    w: usize,
-    count: usize,
-    masks: &[u64],
-    cells: &mut [E::Wire],
-)
-    requires fits { count * w ≤ length blocks.now }
-    requires lanes { count ≤ E.lanes }
+pub(crate) fn load<E: Engine>(e: &E, blocks: Matrix<'_>, masks: &[u64], cells: &mut [E::Wire])
+    requires lanes { blocks.height ≤ E.lanes }
     requires masks { length cells.old ≤ length masks.now }
-    ensures { map E.means cells.new ≡ columns (length cells.old) (rows w count blocks.now) }
+    ensures { map E.means cells.new ≡ columns (length cells.old) (rows_in blocks.entry) }
 {
     for (i, cell) in cells.iter_mut().enumerate() {
-        *cell = e.enter(gather(blocks, w, count, i), masks[i]);
+        *cell = e.enter(gather(blocks, i), masks[i]);
     }
 }
 

@@ -1,11 +1,13 @@
 // Linear work on wires: products with matrices that stand in words, and sums. Only entering, reading and adding wires is asked of an engine here.
 // Matrices and constants are public, so their bits may be branched on; what a wire carries never is.
-ghost use Rattle.std.specs.Prelude.{◌≡◌, ℕ, ◌+◌, ◌-◌, ◌*◌, ◌/◌, ◌%◌, ◌^◌, ◌<◌, ◌≤◌, map, length, drop, replicate, bit_xor, slice_index};
-ghost use Rattle.bits.specs.Gf2.{comb, dot, mul, rows, value};
+ghost use Rattle.std.specs.Prelude.{◌≡◌, ℕ, ◌+◌, ◌-◌, ◌*◌, ◌/◌, ◌%◌, ◌^◌, ◌<◌, ◌≤◌, map, length, replicate, bit_xor, slice_index};
+ghost use Rattle.bits.specs.Gf2.{comb, dot, mul, value};
+ghost use Rattle.bits.specs.Matrices.{rows_in};
 ghost use Rattle.cipher.specs.Instances.{times};
 ghost use Rattle.bits.specs.Gauss.{row_at};
 ghost use Rattle.batches.specs.Lanes.{lane, table};
 
+use bits::matrix::Matrix;
 use bits::words::bit;
 use engines::engine::Engine;
 
@@ -44,54 +46,50 @@ fn sum_ways<E: Engine>(e: &E, from: &[E::Wire], b: usize, sums: &mut [E::Wire])
     }
 }
 
-// Adds to each wire of `to` the sum that group `g` of `b` bits of its row picks; the rows, of `w` words each, stand at `at`.
+// Adds to each wire of `to` the sum that group `g` of `b` bits of its row picks.
 fn add_group<E: Engine>(
     e: &E,
-    words: &[u64],
-    at: usize,
-    w: usize,
+    m: Matrix<'_>,
     b: usize,
     g: usize,
     sums: &[E::Wire],
     to: &mut [E::Wire],
 )
-    requires fits { at + length to.old * w ≤ length words.now }
+    requires tall { length to.old ≤ m.height }
     requires room { 2 ^ b ≤ length sums.now }
     requires whole { (1 ≤ b) × (b ≤ 4) × (b * (64 / b) ≡ 64) }
-    requires place { b * g < 64 * w }
-    ensures { map E.means to.new ≡ table (length to.old) (λ i. bit_xor (slice_index (map E.means to.old) i) (slice_index (map E.means sums.now) (row_at w (drop at words.now) i / 2 ^ (b * g) % 2 ^ b))) }
+    requires place { b * g < 64 * m.width }
+    ensures { map E.means to.new ≡ table (length to.old) (λ i. bit_xor (slice_index (map E.means to.old) i) (slice_index (map E.means sums.now) (row_at m.entry.width m.entry.words.now i / 2 ^ (b * g) % 2 ^ b))) }
 {
     let in_word = 64 / b;
     let word = g / in_word;
     let shift = b * (g % in_word);
     let ways: u64 = 1 << b;
     for (i, wire) in to.iter_mut().enumerate() {
-        let pick = (words[at + i * w + word] >> shift) % ways;
+        let pick = (m.row(i)[word] >> shift) % ways;
         *wire = e.add(*wire, sums[pick as usize]);
     }
 }
 
-// The product of the matrix whose rows, of `w` words each, stand at `at` with the wires `from`. Wires are added a few at a time: the sums of all ways to
-// pick among them are computed once, into `sums`, and then each row picks one.
+// The product of a matrix with the wires `from`. Wires are added a few at a time: the sums of all ways to pick among them are computed once, into
+// `sums`, and then each row picks one.
 pub(crate) fn product<E: Engine>(
     e: &E,
-    words: &[u64],
-    at: usize,
-    w: usize,
+    m: Matrix<'_>,
     from: &[E::Wire],
     to: &mut [E::Wire],
     sums: &mut [E::Wire],
 )
-    requires fits { at + length to.old * w ≤ length words.now }
-    requires wide { length from.now ≤ 64 * w }
+    requires tall { length to.old ≡ m.height }
+    requires wide { length from.now ≤ 64 * m.width }
     requires room { 2 ≤ length sums.old }
-    ensures { map E.means to.new ≡ times (rows w (length to.old) (drop at words.now)) (map E.means from.now) }
+    ensures { map E.means to.new ≡ times (rows_in m.entry) (map E.means from.now) }
 {
     clear(e, to);
     let b = group_size(sums.len());
     for (g, wires) in from.chunks(b).enumerate() {
         sum_ways(e, wires, b, sums);
-        add_group(e, words, at, w, b, g, sums, to);
+        add_group(e, m, b, g, sums, to);
     }
 }
 

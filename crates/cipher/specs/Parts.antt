@@ -15,4 +15,4 @@ pub record PartsOf (p : Params) (ws : List ℕ) (i : ℕ) (r : Round) : Type 0 w
   pub key : rows_in r.key ≡ matrix_at (key_words_of p) p.n (places_of p i).key ws
   pub long : length r.constant.now ≡ block_words_of p
   pub tall : (r.layer.height ≡ p.n) × (r.inverse.height ≡ p.n) × (r.key.height ≡ p.n)
-  pub wide : (r.layer.width ≡ block_words_of p) × (r.inverse.width ≡ block_words_of p)
+  pub wide : (r.layer.width ≡ block_words_of p) × (r.inverse.width ≡ block_words_of p) × (r.key.width ≡ key_words_of p)

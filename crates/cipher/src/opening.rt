@@ -59,12 +59,11 @@ impl<'a> Instance<'a> {
         self.opened.map(|opened| opened.set.params)
     }
 
-    // The parameters and the words of the set that is held.
-    pub fn held(&self) -> Option<(Params, &'a [u64])>
-        ensures value { MatchOption result (held_by self.now ≡ None) (λ x. held_by self.now ≡ Some (x.0, x.1.now)) }
+    // The set that is held.
+    pub fn held(&self) -> Option<Opened<'a>>
+        ensures value { MatchOption result (held_by self.now ≡ None) (λ o. held_by self.now ≡ Some (o.set.params, o.set.words.now)) }
         ensures sound { Sound (held_by self.now) }
     {
-        let Opened { set } = self.opened?;
-        Some((set.params, set.words))
+        self.opened // what is held
     }
 }

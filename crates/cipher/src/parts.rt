@@ -33,7 +33,7 @@ impl<'a> Prepared<'a> {
     // The key matrix that is used before the rounds.
     pub fn first_key(self) -> Matrix<'a>
         ensures rows { rows_in result ≡ matrix_at (key_words_of self.entry.params) self.entry.params.n (keys_place self.entry.params) self.entry.words.now }
-        ensures height { result.height ≡ self.entry.params.n }
+        ensures shape { (result.width ≡ key_words_of self.entry.params) × (result.height ≡ self.entry.params.n) }
     {
         self.matrix_at(keys_from(self.params), self.params.key_words())
     }

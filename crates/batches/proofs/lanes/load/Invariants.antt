@@ -1,7 +1,7 @@
 use Rattle.std.proofs.Common.{◌≡◌, map, take}
-use Rattle.bits.specs.Gf2.{rows}
+use Rattle.bits.specs.Matrices.{rows_in}
 use Rattle.batches.specs.Lanes.{columns}
 use Rattle.batches.proofs.lanes.load.Given as goal
 
 abbrev pub invariant-loop-i : goal.invariant-loop-i
-invariant-loop-i g l = map g.E.Engine.means (take l.i l.cells) ≡ columns l.i (rows l.w l.count l.blocks)
+invariant-loop-i g l = map g.E.Engine.means (take l.i l.cells) ≡ columns l.i (rows_in l.fn.blocks)

@@ -9,7 +9,9 @@ use Rattle.batches.proofs.rounds.decrypt_wires.Given as goal
 abbrev pub invariant-loop-i : goal.invariant-loop-i
 invariant-loop-i g l =
     let m = g.E.Engine in
+    let p = l.fn.opened.set.params in
+    let ws = l.fn.opened.set.words.now in
     ((j : ℕ) → j < m.lanes
     → lane j (map m.means l.state)
-    ≡ unrounds l.p.m (lane j (map m.means l.key)) (layers_left l.p l.words (l.r - l.i)) (constants_left l.p l.words (l.r - l.i)) (keys_left l.p l.words (l.r - l.i)) (lane j (map m.means l.initial.state)))
-    × Spent (m.acct l.initial.e) (l.i * (3 * l.p.m)) (m.acct l.e)
+    ≡ unrounds p.m (lane j (map m.means l.key)) (layers_left p ws (p.r - l.i)) (constants_left p ws (p.r - l.i)) (keys_left p ws (p.r - l.i)) (lane j (map m.means l.initial.state)))
+    × Spent (m.acct l.initial.e) (l.i * (3 * p.m)) (m.acct l.e)

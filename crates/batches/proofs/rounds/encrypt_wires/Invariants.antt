@@ -9,7 +9,9 @@ use Rattle.batches.proofs.rounds.encrypt_wires.Given as goal
 abbrev pub invariant-loop-i : goal.invariant-loop-i
 invariant-loop-i g l =
     let m = g.E.Engine in
+    let p = l.fn.opened.set.params in
+    let ws = l.fn.opened.set.words.now in
     ((j : ℕ) → j < m.lanes
-    → rounds l.p.m (lane j (map m.means l.key)) (layers_left l.p l.words l.i) (constants_left l.p l.words l.i) (keys_left l.p l.words l.i) (lane j (map m.means l.state))
-    ≡ rounds l.p.m (lane j (map m.means l.key)) (layers_left l.p l.words 0) (constants_left l.p l.words 0) (keys_left l.p l.words 0) (lane j (map m.means l.initial.state)))
-    × Spent (m.acct l.initial.e) (l.i * (3 * l.p.m)) (m.acct l.e)
+    → rounds p.m (lane j (map m.means l.key)) (layers_left p ws l.i) (constants_left p ws l.i) (keys_left p ws l.i) (lane j (map m.means l.state))
+    ≡ rounds p.m (lane j (map m.means l.key)) (layers_left p ws 0) (constants_left p ws 0) (keys_left p ws 0) (lane j (map m.means l.initial.state)))
+    × Spent (m.acct l.initial.e) (l.i * (3 * p.m)) (m.acct l.e)

@@ -14,9 +14,9 @@ pub loop-g-init : goal.loop-g-init
 loop-g-init g c =
     let ms = map g.E.Engine.means c.args.from.now in
     let n = length c.clear.new.cells in
-    let w = c.args.w in
+    let w = c.args.m.width in
     let b = c.group_size-b.result in
-    let ws = drop c.args.at c.args.words.now in
+    let ws = c.args.m.words.now in
     let same = c.into_iter-g-iterator.ensures.into_iter_gives in
     let source = ap enumerate_source same ∙ c.enumerate-g-items.ensures.source in
     let none : enumerate_count c.into_iter-g-iterator.result ≡ 0 = ap enumerate_count same ∙ c.enumerate-g-items.ensures.count in
@@ -35,8 +35,8 @@ loop-g-preserved g c =
     let ms = map m from in
     let k = c.in-Some.g in
     let b = c.group_size-b.result in
-    let w = c.args.w in
-    let ws = drop c.args.at c.args.words.now in
+    let w = c.args.m.width in
+    let ws = c.args.m.words.now in
     let s = c.in-Some.ensures.steps in
     let inv = c.loop-g.invariant in
     let ys = c.in-Some.wires.now in
@@ -63,11 +63,11 @@ returns g c =
     let m = g.E.Engine.means in
     let xs = c.args.from.now in
     let ms = map m xs in
-    let w = c.args.w in
+    let w = c.args.m.width in
     let b = c.group_size-b.result in
-    let ws = drop c.args.at c.args.words.now in
+    let ws = c.args.m.words.now in
     let k = enumerate_count c.loop-g.g-iterator in
     let len : length ms ≡ length xs = length-map xs m in
     let none : length (drop (b * k) xs) ≡ 0 = sym (ap length c.loop-g.invariant.left) ∙ c.in-None.ensures.steps.0.1.0 in
     c.loop-g.invariant.added ∙ groups_all (length c.clear.new.cells) w (b * k) ws ms (omega (arith, len, none, length-drop (b * k) xs))
-    ∙ ap (λ k. times (rows w k ws) ms) c.clear.auto.cells
+    ∙ ap (λ k. times (rows w k ws) ms) (c.clear.auto.cells ∙ c.requires.tall)

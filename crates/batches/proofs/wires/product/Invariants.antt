@@ -15,5 +15,5 @@ invariant-loop-g g l =
     record {
       size : chunks_size parts ≡ l.b;
       left : chunks_rest parts ≡ drop (l.b * k) l.from;
-      added : map m l.to ≡ table (length l.initial.to) (λ i. comb (map m l.from) (row_at l.w (drop l.at l.words) i % 2 ^ (l.b * k)));
+      added : map m l.to ≡ table (length l.initial.to) (λ i. comb (map m l.from) (row_at l.fn.m.width l.fn.m.words.now i % 2 ^ (l.b * k)));
     }
