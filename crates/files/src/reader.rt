@@ -7,6 +7,7 @@ ghost use Rattle.files.specs.Steps.{Numbered, Stepped, after_header, at_start, b
 ghost use Rattle.files.specs.Reading.{header as header_in};
 ghost use Rattle.files.specs.Surveys.{Advanced, Sound, judged_from, look_of};
 
+use crate::rows::byte_width;
 use bits::refusal::{Fault, Layer as Part, Refusal};
 use cipher::params::Params;
 
@@ -51,13 +52,6 @@ fn mark_of(letters: [u8; 2]) -> Option<Mark>
         [b'E', b'N'] => Some(Mark::End),
         _ => None,
     }
-}
-
-// How many bytes hold so many bits.
-pub(crate) fn byte_width(bits: u16) -> usize
-    ensures { result ≡ byte_width_of bits }
-{
-    (bits as usize).div_ceil(8)
 }
 
 // Bytes before a record's body: its mark, and its number if it has one.
@@ -314,8 +308,6 @@ impl<'a> Reader<'a> {
 }
 
 // The records of a file that is stepped through to its end, each as its mark, number and body, are that file: no byte is passed over, none is left.
-pub fn steps_stand() -> u8
+pub fn steps_stand()
     ensures { WholeFile }
-{
-    0
-}
+{}
