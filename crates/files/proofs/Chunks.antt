@@ -16,27 +16,37 @@ pub record Come (c j n : ℕ) (xs : List ℕ) (s : ChunksExact ℕ) : Type 0 whe
   pub most : j ≤ n
 
 module _ (c j n : ℕ) (xs : List ℕ) (s t : ChunksExact ℕ) (come : Come c j n xs s) where
-  -- the next piece
-  pub come_turn : (x : Bor (List ℕ)) → chunks_exact_steps s (Some x) t → 0 < c → length xs ≡ n * c → (j < n) × (x.now ≡ take c (drop (j * c) xs)) × Come c (j + 1) n xs t
-  come_turn x h some all =
+  -- there is room for another
+  pub come_room : (x : Bor (List ℕ)) → chunks_exact_steps s (Some x) t → c ≤ length xs - j * c
+  come_room x h = omega (arith, h.1.1, come.size, length-append x.now (chunks_exact_rest t), ap length (sym come.rest ∙ h.1.0), length-drop (j * c) xs)
+
+  -- the next piece, where it is one of the n
+  pub come_next : (x : Bor (List ℕ)) → chunks_exact_steps s (Some x) t → j < n → (x.now ≡ take c (drop (j * c) xs)) × Come c (j + 1) n xs t
+  come_next x h below =
       let size : length x.now ≡ c = h.1.1 ∙ come.size in
       let parts = sym come.rest ∙ h.1.0 in
       let next : (j + 1) * c ≡ j * c + c = ap (λ (k : ℕ). k * c) (add-one j) ∙ suc-mul j c in
-      let long : length x.now + length (chunks_exact_rest t) ≡ length xs - j * c = sym (length-append x.now (chunks_exact_rest t)) ∙ sym (ap length parts) ∙ length-drop (j * c) xs in
-      let most : j + 1 ≤ n = le_of_mul-le-mul_right {m = j + 1} {n = n} {k = c} (omega arith) some in (
-        omega arith,
-        sym (ap (take c) parts ∙ take_at x.now (chunks_exact_rest t) c size),
-        record {
-          size = h.0 ∙ come.size;
-          rest = sym (ap (λ (k : ℕ). drop k xs) next ∙ sym (drop-drop c (j * c) xs) ∙ ap (drop c) parts ∙ drop_at x.now (chunks_exact_rest t) c size);
-          most = most;
-        },
-      )
+      let tail : drop ((j + 1) * c) xs ≡ chunks_exact_rest t = ap (λ (k : ℕ). drop k xs) next ∙ sym (drop-drop c (j * c) xs) ∙ ap (drop c) parts ∙ drop_at x.now (chunks_exact_rest t) c size in
+      (sym (ap (take c) parts ∙ take_at x.now (chunks_exact_rest t) c size), record { size = h.0 ∙ come.size; rest = sym tail; most = omega arith })
+
+  -- a slice of n pieces: the next is one of them
+  pub come_turn : (x : Bor (List ℕ)) → chunks_exact_steps s (Some x) t → 0 < c → length xs ≡ n * c → (j < n) × (x.now ≡ take c (drop (j * c) xs)) × Come c (j + 1) n xs t
+  come_turn x h some all =
+      let next : (j + 1) * c ≡ j * c + c = ap (λ (k : ℕ). k * c) (add-one j) ∙ suc-mul j c in
+      let room = come_room x h in
+      let most : j + 1 ≤ n = le_of_mul-le-mul_right {m = j + 1} {n = n} {k = c} (omega arith) some in
+      let below : j < n = omega arith in
+      let m = come_next x h below in
+      (below, m.0, m.1)
+
+  -- less than a piece is left
+  pub come_short : chunks_exact_steps s None t → length xs < j * c + c
+  come_short h = omega (arith, h.1.0, come.size, ap length come.rest, length-drop (j * c) xs)
 
   -- all have come
   pub come_end : chunks_exact_steps s None t → length xs ≡ n * c → j ≡ n
   come_end h all = elim (cases_lt j n) [
-    | inl l ↦ absurd (omega (arith, row_ends j n c l, h.1.0, come.size, ap length come.rest, length-drop (j * c) xs))
+    | inl l ↦ absurd (omega (arith, row_ends j n c l, come_short h))
     | inr l ↦ omega (arith, come.most)
   ]
 

@@ -4,6 +4,7 @@ pub mod Slots
 pub mod Meets
 pub mod Exact
 pub mod Looks
+pub mod Marks
 pub mod Advance
 pub mod Inverting
 pub mod Verdict

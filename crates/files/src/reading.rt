@@ -13,7 +13,7 @@ use bits::refusal::{Fault, Layer, Refusal};
 use cipher::params::Params;
 
 // Where a set's witness goes: the words of the widest block.
-const WITNESS_WORDS: usize = 4;
+pub const WITNESS_WORDS: usize = 4;
 
 // Refuses too little room for the prepared words, then for a witness.
 fn check_room(params: Params, words: usize, witness: usize) -> Result<(), Fault>

@@ -1,10 +1,12 @@
-// The rows of a record's body, as words.
-ghost use Rattle.std.specs.Prelude.{◌≡◌, ℕ, ◌+◌, ◌*◌, ◌≤◌, length, slice_index};
+// The rows of a record's body: as words, and whether a bit is astray.
+ghost use Rattle.std.specs.Prelude.{◌≡◌, ℕ, ◌+◌, ◌*◌, ◌^◌, ◌<◌, ◌≤◌, length, slice_index};
 ghost use Rattle.bits.specs.Gf2.{Below, flat, width_of, words_of};
 ghost use Rattle.files.specs.Format.{byte_rows, byte_value, byte_width_of, matrices_of, record_size as size_in_file};
+ghost use Rattle.files.specs.Faults.{body_slots, seen};
 ghost use Rattle.files.specs.Words.{eight_bytes};
 ghost use Rattle.cipher.specs.Sets.{joined};
 
+use bits::refusal::{Fault, Layer as Part, Refusal};
 use bits::words::width;
 use std::array;
 
@@ -89,5 +91,21 @@ impl Rows {
             // by index, as above
             self.load(&record[3..], &mut out[j * piece..j * piece + piece]);
         }
+    }
+
+    // The first stray bit in the rows of a body, of which `bytes` has the start and `at` is the place: only a row's last byte can have one.
+    pub(crate) fn look(self, bytes: &[u8], at: usize) -> Result<(), Fault>
+        requires { at + length bytes.now < 2 ^ 64 }
+        ensures { result ≡ seen at (body_slots (byte_width_of self.bits) self.bits self.count) bytes.now }
+    {
+        let size = byte_width(self.bits);
+        let limit = 1u16 << (usize::from(self.bits) - 8 * (size - 1));
+        for (i, row) in bytes.chunks_exact(size).take(self.count.into()).enumerate() {
+            if u16::from(row[size - 1]) >= limit {
+                let last = i * size + size - 1;
+                return Err(Fault::at(Refusal::StrayBit, Part::File, at + last));
+            }
+        }
+        Ok(())
     }
 }
