@@ -59,7 +59,11 @@ impl<'a> Layers<'a> {
     {
         let rows = self.rows();
         rows.load(self.body(j), layer);
-        invert(Matrix::new(layer, rows.width(), self.n.into()), inverse, vector)
+        invert(
+            Matrix::new(layer, rows.width(), self.n.into()),
+            inverse,
+            vector,
+        )
     }
 
     // Inverts the layer in record `j`.
@@ -92,7 +96,7 @@ impl<'a> Layers<'a> {
     {
         for j in 0..usize::from(self.count) {
             let mut vector = [0u64; 4];
-            if self.check_layer(j, &mut vector).is_err() {
+            if let Err(Singular) = self.check_layer(j, &mut vector) {
                 witness[..4].copy_from_slice(&vector);
                 return Err(Fault::at(Refusal::LayerCollapses, Layer::Set, j + 1));
             }

@@ -6,10 +6,10 @@ use Rattle.cipher.specs.Laws.{Invertible}
 use Rattle.files.proofs.Inverting.{each_more, matrix_at_is}
 use Rattle.files.proofs.layers.Layers.check.Goals as goal
 
-pub returns-in-Collapses : goal.returns-in-Collapses
-returns-in-Collapses c =
+pub returns-in-Err : goal.returns-in-Err
+returns-in-Err c =
     let n = c.args.self.now.n in
-    let t = c.in-Collapses.ensures in
+    let t = c.in-Err.ensures in
     record {
       round = c.loop-j.j;
       vector = t.vector;
