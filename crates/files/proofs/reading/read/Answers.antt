@@ -7,11 +7,11 @@ use Rattle.cipher.specs.Laws.{Invertible}
 use Rattle.files.specs.Format.{byte_width_of, matrices_of, set_of}
 use Rattle.files.specs.Preparing.{Found}
 use Rattle.files.specs.Reading.{Clashing, Exact, Opens, Prepared, Read, header, judged_all, room}
-use Rattle.files.specs.Steps.{State, after_header}
+use Rattle.files.specs.Steps.{State, after_header, state_of}
 use Rattle.files.specs.Surveys.{Sound, judged_from}
 use Rattle.files.proofs.Exact.{header_lawful}
 use Rattle.files.proofs.Pieces.{Bytes}
-use Rattle.files.proofs.Verdict.{clashing_from, collapsed_from, end_is, exact_from, judged_start, opens_from, passed_judged, read_collapsed, read_prepared, read_refused, sound_start}
+use Rattle.files.proofs.Verdict.{clashing_from, collapsed_from, end_is, exact_from, judged_start, opens_from, passed_judged, passed_room, read_collapsed, read_prepared, read_refused, sound_start}
 use Rattle.files.proofs.reading.read.Goals as goal
 
 -- what the reader before and after the header, and the answers of its steps, say of the file itself
@@ -45,6 +45,24 @@ module _ (file words wit words' wit' : List ℕ) (answer : Result Params Fault) 
   promised bytes r =
       let exact = exact_from file words wit words' wit' answer bytes r in
       record { read = r; clashing = clashing_from file words wit words' wit' bytes answer r; opens = opens_from file words' words wit wit' answer exact; exact = exact }
+
+pub returns-in_err-check_room : goal.returns-in_err-check_room
+returns-in_err-check_room c =
+    let f = c.args.file.now in
+    let ws = c.args.words.now in
+    let wit = c.args.witness.now in
+    let p = c.in_ok-params.params in
+    let a = c.from_residual-in_err-check_room.result in
+    let q = err_from_is_err_and a c.from_residual-in_err-check_room.ensures.1 in
+    let hd : header f ≡ Ok p = ap (λ x. header x.now) (sym c.new-reader.ensures.file) ∙ sym c.header.ensures.value ∙ c.in_ok-params.was in
+    let no : room p (length ws) (length wit) ≡ Err q.0 = sym c.check_room.ensures ∙ c.in_err-check_room.was ∙ ap Err (sym q.2) in
+    promised f ws wit ws wit a (λ i. omega (arith, c.type_inv.file i)) (read_refused f ws wit ws wit q.0 a (passed_room f (length ws) (length wit) p hd q.0 no) q.1 refl refl)
+
+pub survey-requires : goal.survey-requires
+survey-requires c =
+    let p = c.in_ok-params.params in
+    let hd : header c.args.file.now ≡ Ok p = ap (λ x. header x.now) (sym c.new-reader.ensures.file) ∙ sym c.header.ensures.value ∙ c.in_ok-params.was in
+    sound_here c.header.new.self.file c.args.file (state_of c.header.new.self) p (c.header.ensures.file ∙ c.new-reader.ensures.file) c.in_ok-params.ensures.state hd
 
 pub invariant_of-set : goal.invariant_of-set
 invariant_of-set c =
@@ -84,13 +102,6 @@ returns-in_err-check c =
     (subst (λ e. Found (matrices_of (byte_width_of l.n) l.n l.count l.bytes.now) l.count wit wit' e) (sym q.2) c.in_err-check.ensures)) in
     promised f ws wit ws wit' a (λ i. omega (arith, c.type_inv.file i))
     (read_collapsed f ws wit ws wit' p q.0 a (passed_judged f (length ws) (length wit) p k.0 ok (Ok tt) k.1) q.1 (collapsed_from p f ws wit wit' q.0 found))
-
-pub prepare-requires-clause-invertible : goal.prepare-requires-clause-invertible
-prepare-requires-clause-invertible c =
-    let p = c.in_ok-params.params in
-    let l = c.layers.result in
-    let form = c.layers.ensures.form in
-    subst (Each Invertible) (layers_are l.n p.n l.count p.r l.bytes.now (drop 8 c.args.file.now) form.0 form.1 c.layers.ensures.bytes) c.in_ok-check.ensures.0
 
 pub returns : goal.returns
 returns c =

@@ -1,8 +1,6 @@
-use Rattle.std.proofs.Common.{◌≡◌, ◌++◌, drop, sym, ◌∙◌, subst, ap₂, arith}
+use Rattle.std.proofs.Common.{◌++◌, drop, sym, ◌∙◌, subst, ap₂, arith}
 use Rattle.bits.specs.Gf2.{Witness}
-use Rattle.cipher.specs.Sets.{Each}
-use Rattle.files.specs.Format.{byte_width_of, matrices_of}
-use Rattle.cipher.specs.Laws.{Invertible}
+use Rattle.files.specs.Format.{byte_width_of}
 use Rattle.files.proofs.Inverting.{each_more, matrix_at_is}
 use Rattle.files.proofs.layers.Layers.check.Goals as goal
 
@@ -21,9 +19,3 @@ returns-in-Err c =
 
 pub loop-j-preserved : goal.loop-j-preserved
 loop-j-preserved c = (each_more (byte_width_of c.args.self.now.n) c.args.self.now.n c.loop-j.j c.args.self.now.bytes.now c.loop-j.invariant.0 c.in_default.ensures, c.loop-j.invariant.1)
-
-pub returns : goal.returns
-returns c =
-    let n = c.args.self.now.n in
-    let e : c.loop-j.j ≡ c.args.self.now.count = omega arith in
-    (subst (λ k. Each Invertible (matrices_of (byte_width_of n) n k c.args.self.now.bytes.now)) e c.loop-j.invariant.0, c.loop-j.invariant.1)

@@ -9,9 +9,6 @@ use Rattle.files.proofs.Inverting.{rows_below}
 use Rattle.files.proofs.Pieces.{all_written, put_piece, rows_more}
 use Rattle.files.proofs.rows.Rows.load.Goals as goal
 
-pub loop-i-init : goal.loop-i-init
-loop-i-init c = record { can = search rules; finite = search rules; come = record { size = search rules; rest = search rules; most = search rules }; written = search rules }
-
 pub slice_bounds-load_row-end : goal.slice_bounds-load_row-end
 slice_bounds-load_row-end c =
     let t = come_turn (byte_width_of c.args.self.bits) (enumerate_count c.loop-i.i-iterator) c.args.self.count c.args.body.now (enumerate_source c.loop-i.i-iterator)

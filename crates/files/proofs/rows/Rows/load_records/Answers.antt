@@ -10,9 +10,6 @@ use Rattle.files.proofs.Chunks.{Come, body_at, come_end, come_turn}
 use Rattle.files.proofs.Pieces.{all_written, length_byte_rows, put_piece, records_more}
 use Rattle.files.proofs.rows.Rows.load_records.Goals as goal
 
-pub loop-j-init : goal.loop-j-init
-loop-j-init c = record { can = search rules; finite = search rules; come = record { size = search rules; rest = search rules; most = search rules }; written = search rules }
-
 pub slice_bounds-load-end-in-loop-j : goal.slice_bounds-load-end-in-loop-j
 slice_bounds-load-end-in-loop-j c =
     let s = record_size (byte_width_of c.args.self.bits) c.args.self.count in

@@ -16,15 +16,6 @@ use Rattle.files.proofs.rows.Rows.look.Goals as goal
 limit_is : (e : ℕ) → e ≤ 8 → 1 * 2 ^ e % 65536 ≡ 2 ^ e
 limit_is e h = omega (arith, pow_mono {i = e} {j = 8} h)
 
-pub loop-i-init : goal.loop-i-init
-loop-i-init c = record {
-  can = search rules;
-  finite = search rules;
-  come = record { size = search rules; rest = search rules; most = search rules };
-  left = search rules;
-  fine = search rules;
-}
-
 pub returns-then-from-limit : goal.returns-then-from-limit
 returns-then-from-limit c =
     let rows = c.args.self in
