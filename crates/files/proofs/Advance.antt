@@ -9,10 +9,11 @@ use Rattle.bits.specs.Refusals.{fault_at, first_of, then}
 use Rattle.cipher.specs.Parameters.{Lawful}
 use Rattle.files.specs.declared.reader.Mark.{Mark}
 use Rattle.files.specs.declared.reader.Mark.TheVariants.{Header, Layer, Constant, Key, End}
+use Rattle.files.specs.declared.reader.Record.{Record}
 use Rattle.files.specs.Format.{byte_width_of, first, second, record_size}
 use Rattle.files.specs.Faults.{Slot, body_slots, constants_due, end_slots, judged, keys_due, letters, number, record_slots, seen, series_slots, size_of}
-use Rattle.files.specs.Steps.{Answer, Seen, State, due_at, numbered, past, record_at, series, step_from, step_of, whole_size}
-use Rattle.files.specs.Surveys.{Sound, SoundAt, due_after, judged_from, look_of, slots_at}
+use Rattle.files.specs.Steps.{Answer, State, Stepped, due_at, numbered, past, record_at, seen_of, series, step_from, step_of, whole_size}
+use Rattle.files.specs.Surveys.{Advanced, Sound, SoundAt, due_after, judged_from, look_of, slots_at}
 use Rattle.files.proofs.Meets.{test_ok}
 use Rattle.files.proofs.Slots.{seen_append_err, seen_append_ok, seen_append_short, size_of_append, size_of_record}
 
@@ -303,11 +304,8 @@ module _ (file : List ℕ) (s : State) (sound : Sound file s) where
     stepped : (a : Answer) → step_of file s ≡ a → AdvancedTo file s (due_after s s.due) a
     stepped a h = subst (AdvancedTo file s (due_after s s.due)) h (advances file s s.due sound.limits sound.inside sound.due fine)
 
-    pub refused_by_step : (e : Fault) → step_of file s ≡ Err e → judged_from file s ≡ Err e
-    refused_by_step e h = stepped (Err e) h
-
-    pub step_ends : step_of file s ≡ Ok None → judged_from file s ≡ Ok tt
-    step_ends h = stepped (Ok None) h
-
-    pub step_goes_on : (x : Seen) (s' : State) → step_of file s ≡ Ok (Some (x, s')) → (judged_from file s ≡ judged_from file s') × Sound file s' × (s.at < s'.at)
-    step_goes_on x s' h = stepped (Ok (Some (x, s'))) h
+    -- and where the step went
+    pub advanced : (s' : State) (r : Result (Option Record) Fault) → Stepped file s s' r → Advanced file s s' r
+    advanced s' (Err e) h = stepped (Err e) h.0
+    advanced s' (Ok None) h = stepped (Ok None) h.0
+    advanced s' (Ok (Some x)) h = stepped (Ok (Some (seen_of x, s'))) h

@@ -1,10 +1,11 @@
 pub mod Pieces
+pub mod Chunks
 pub mod Slots
 pub mod Meets
 pub mod Exact
 pub mod Looks
+pub mod Marks
 pub mod Advance
 pub mod Inverting
-pub mod Sections
 pub mod Verdict
 pub mod Walking

@@ -1,5 +1,5 @@
 -- Rows of bytes against what is due: only a row's last byte can have a stray bit.
-use Rattle.std.proofs.Common.{◌≡◌, ℕ, zero, suc, ◌+◌, ◌-◌, ◌*◌, ◌^◌, ◌<◌, ◌≤◌, min, cond, ◌&&◌, eqb, ltb, List, [], ◌∷◌, ◌++◌, length, get_or, drop, Ok, Err, Result, sym, refl, ap, ◌∙◌, arith}
+use Rattle.std.proofs.Common.{◌≡◌, ℕ, zero, suc, ◌+◌, ◌-◌, ◌*◌, ◌^◌, ◌<◌, ◌≤◌, false, min, cond, ◌&&◌, eqb, ltb, List, [], ◌∷◌, ◌++◌, length, get_or, take, drop, Ok, Err, Result, sym, refl, ap, ◌∙◌, subst, arith}
 use Rattle.std.proofs.lemmas.Bool.{and_from, cond-false, cond-true, eq-eqb, le-ltb, lt-ltb}
 use Rattle.bits.specs.declared.refusal.Refusal.TheVariants.{StrayBit, WrongMark, WrongNumber}
 use Rattle.bits.specs.declared.refusal.Layer.TheVariants.{File}
@@ -7,7 +7,7 @@ use Rattle.bits.specs.declared.refusal.Fault.{Fault}
 use Rattle.bits.specs.Refusals.{fault_at}
 use Rattle.files.specs.declared.reader.Mark.{Mark}
 use Rattle.files.specs.Format.{byte_width_of, first, second}
-use Rattle.files.specs.Faults.{Slot, body_slots, number, record_slots, row_slots, seen, size_of}
+use Rattle.files.specs.Faults.{body_slots, number, record_slots, row_slots, seen, size_of}
 use Rattle.files.proofs.Pieces.{Bytes}
 use Rattle.files.proofs.Slots.{seen_append_err, seen_append_ok, seen_append_short, size_of_row}
 
@@ -88,16 +88,33 @@ module _ (c d bits : ℕ) (size : c ≡ suc d) (above : 8 * d < bits) (within : 
       ap (λ (k : ℕ). seen (o + k) (body_slots c bits (count - (i + 1))) (drop k bs)) (sym (size_of_row c bits))
       ∙ sym (open_rows o i count bs h ∙ seen_append_ok o (row_slots c bits) (body_slots c bits (count - (i + 1))) bs (row o bs ∙ row_fine d bits o bs f above within l q)) ∙ inv
 
--- ---- a record whose mark and number are right: on to its rows
-pub record_on : (o bits count i : ℕ) (k : Mark) (bs : List ℕ) → 3 ≤ length bs → get_or bs 0 0 ≡ first k → get_or bs 1 0 ≡ second k → get_or bs 2 0 ≡ i
-    → seen o (record_slots k bits count i) bs ≡ seen (o + 3) (body_slots (byte_width_of bits) bits count) (drop 3 bs)
-record_on o bits count i k [] h a b c = absurd (omega arith)
-record_on o bits count i k (x ∷ []) h a b c = absurd (omega arith)
-record_on o bits count i k (x ∷ y ∷ []) h a b c = absurd (omega arith)
-record_on o bits count i k (x ∷ y ∷ z ∷ bs) h a b c =
-    let body : List Slot = body_slots (byte_width_of bits) bits count in
-    let e : 1 + (2 + o) ≡ o + 3 = omega arith in
-    cond-true (eqb x (first k) && eqb y (second k)) (seen (2 + o) (number i ∷ body) (z ∷ bs)) (Err (fault_at WrongMark File o))
-    (and_from (eqb x (first k)) (eqb y (second k)) (eq-eqb x (first k) a) (eq-eqb y (second k) b))
-    ∙ cond-true (eqb z i) (seen (1 + (2 + o)) body bs) (Err (fault_at WrongNumber File (2 + o))) (eq-eqb z i c)
-    ∙ ap (λ (p : ℕ). seen p body bs) e
+-- ---- a record by its first two bytes
+module _ (o bits count i : ℕ) (k : Mark) where
+  -- another mark
+  pub record_other : (bs letters : List ℕ) → letters ≡ take 2 bs → 2 ≤ length bs → eqb (get_or letters 0 0) (first k) && eqb (get_or letters 1 0) (second k) ≡ false
+      → seen o (record_slots k bits count i) bs ≡ Err (fault_at WrongMark File o)
+  record_other [] letters e h t = absurd (omega arith)
+  record_other (x ∷ []) letters e h t = absurd (omega arith)
+  record_other (x ∷ y ∷ bs) letters e h t =
+      cond-false (eqb x (first k) && eqb y (second k)) (seen (2 + o) (number i ∷ body_slots (byte_width_of bits) bits count) bs) (Err (fault_at WrongMark File o))
+      (subst (λ (l : List ℕ). eqb (get_or l 0 0) (first k) && eqb (get_or l 1 0) (second k) ≡ false) e t)
+
+  -- the right mark, and then a number
+  record_named : (x y z : ℕ) (bs : List ℕ) → x ≡ first k → y ≡ second k
+      → seen o (record_slots k bits count i) (x ∷ y ∷ z ∷ bs) ≡ cond (eqb z i) (seen (1 + (2 + o)) (body_slots (byte_width_of bits) bits count) bs) (Err (fault_at WrongNumber File (2 + o)))
+  record_named x y z bs a b =
+      cond-true (eqb x (first k) && eqb y (second k)) (seen (2 + o) (number i ∷ body_slots (byte_width_of bits) bits count) (z ∷ bs)) (Err (fault_at WrongMark File o))
+      (and_from (eqb x (first k)) (eqb y (second k)) (eq-eqb x (first k) a) (eq-eqb y (second k) b))
+
+  -- and the right number: on to its rows
+  pub record_on : (bs letters rest body : List ℕ) (z : ℕ) → letters ≡ take 2 bs → rest ≡ drop 2 bs → 2 ≤ length bs → get_or letters 0 0 ≡ first k → get_or letters 1 0 ≡ second k
+      → rest ≡ z ∷ body → z ≡ i → seen o (record_slots k bits count i) bs ≡ seen (o + 3) (body_slots (byte_width_of bits) bits count) body
+  record_on [] letters rest body z e g h a b r c = absurd (omega arith)
+  record_on (x ∷ []) letters rest body z e g h a b r c = absurd (omega arith)
+  record_on (x ∷ y ∷ bs) letters rest body z e g h a b r c =
+      let n : 1 + (2 + o) ≡ o + 3 = omega arith in
+      let is : bs ≡ z ∷ body = sym g ∙ r in
+      ap (λ (l : List ℕ). seen o (record_slots k bits count i) (x ∷ y ∷ l)) is
+      ∙ record_named x y z body (ap (λ (l : List ℕ). get_or l 0 0) (sym e) ∙ a) (ap (λ (l : List ℕ). get_or l 1 0) (sym e) ∙ b)
+      ∙ cond-true (eqb z i) (seen (1 + (2 + o)) (body_slots (byte_width_of bits) bits count) body) (Err (fault_at WrongNumber File (2 + o))) (eq-eqb z i c)
+      ∙ ap (λ (p : ℕ). seen p (body_slots (byte_width_of bits) bits count) body) n

@@ -1,5 +1,7 @@
 -- One step of the reader: what it hands out, and where it stands then.
 use Rattle.std.specs.Prelude.{◌≡◌, ℕ, ◌+◌, ◌-◌, ◌*◌, cond, ◌&&◌, List, length, take, drop, Some, None, Ok, Err, Option, Result, ◌==◌, ◌≢◌, nat_lt, slice_index}
+use Rattle.std.specs.Option.{ok_or}
+use Rattle.bits.specs.declared.refusal.Refusal.{Refusal}
 use Rattle.bits.specs.declared.refusal.Refusal.TheVariants.{Truncated, WrongMark, WrongNumber}
 use Rattle.bits.specs.declared.refusal.Layer.TheVariants.{File}
 use Rattle.bits.specs.declared.refusal.Fault.{Fault}
@@ -18,6 +20,18 @@ mark_of a b =
     cond (a == 80 && b == 82) (Some Header)
     (cond (a == 76 && b == 77) (Some Layer)
     (cond (a == 82 && b == 67) (Some Constant) (cond (a == 75 && b == 77) (Some Key) (cond (a == 69 && b == 78) (Some End) None))))
+
+-- the same, where other letters are refused
+abbrev pub mark_or_wrong : List ℕ → Result Mark Refusal
+mark_or_wrong letters = ok_or (mark_of (slice_index letters 0) (slice_index letters 1)) WrongMark
+
+-- what is due after the last record of a mark, and the number that it has
+abbrev pub next_of : Mark → Option Mark × ℕ
+next_of Header = (Some Layer, 1)
+next_of Layer = (Some Constant, 1)
+next_of Constant = (Some Key, 0)
+next_of Key = (Some End, 0)
+next_of End = (None, 0)
 
 -- where a reader stands: the place of the record due, its mark, its number, and the parameters once the header is read
 pub record State : Type 0 where
@@ -128,3 +142,7 @@ Numbered s x k k' i s' (Ok y) =
     (x ≡ s.round) × (y ≡ x)
     × (s' ≡ cond (nat_lt s.round s.params.r) (record { at = s.at; due = Some k; round = s.round + 1; params = s.params }) (record { at = s.at; due = Some k'; round = i; params = s.params }))
 Numbered s x k k' i s' (Err e) = (x ≢ s.round) × (e ≡ fault_at WrongNumber File (s.at + 2)) × (s' ≡ s)
+
+-- the same for a mark by which the reader stands
+abbrev pub NumberedTo : State → ℕ → Mark → State → Result ℕ Fault → Type 0
+NumberedTo s x k s' r = (k' : Mark) → (next_of k).0 ≡ Some k' → Numbered s x k k' (next_of k).1 s' r

@@ -1,8 +1,9 @@
 -- Looking at the record due as far as it is there, and what is still due where a reader stands.
-use Rattle.std.specs.Prelude.{◌≡◌, ℕ, ◌+◌, ◌-◌, ◌<◌, ◌≤◌, Bool, true, false, List, [], length, drop, Some, None, Ok, Err, Option, Result}
+use Rattle.std.specs.Prelude.{◌≡◌, ℕ, ◌+◌, ◌-◌, ◌<◌, ◌≤◌, List, [], length, drop, Some, None, Ok, Err, Option, Result}
 use Rattle.bits.specs.declared.refusal.Fault.{Fault}
 use Rattle.cipher.specs.Parameters.{Lawful}
 use Rattle.files.specs.declared.reader.Mark.{Mark}
+use Rattle.files.specs.declared.reader.Record.{Record}
 use Rattle.files.specs.declared.reader.Mark.TheVariants.{Header, Layer, Constant, Key, End}
 use Rattle.files.specs.Faults.{Slot, constants_due, end_slots, judged, keys_due, layers_due, record_slots, seen}
 use Rattle.files.specs.Steps.{State}
@@ -46,7 +47,7 @@ pub record Sound (file : List ℕ) (s : State) : Type 0 where
   pub due : SoundAt file s s.due
 
 -- one record further: refused as the rest is judged, or on to a rest that is judged alike, or at the end
-abbrev pub Advanced : List ℕ → State → State → Result Bool Fault → Type 0
+abbrev pub Advanced : List ℕ → State → State → Result (Option Record) Fault → Type 0
 Advanced file s s' (Err e) = judged_from file s ≡ Err e
-Advanced file s s' (Ok false) = judged_from file s ≡ Ok tt
-Advanced file s s' (Ok true) = (judged_from file s ≡ judged_from file s') × Sound file s' × (s.at < s'.at)
+Advanced file s s' (Ok None) = judged_from file s ≡ Ok tt
+Advanced file s s' (Ok (Some r)) = (judged_from file s ≡ judged_from file s') × Sound file s' × (s.at < s'.at)

@@ -1,113 +1,121 @@
 // Layers of a file: whether each can be inverted, and their inverses as words.
-ghost use Rattle.std.specs.Prelude.{◌≡◌, ℕ, ◌+◌, ◌*◌, ◌<◌, ◌≤◌, map, length, replicate};
+ghost use Rattle.std.specs.Prelude.{◌≡◌, ℕ, ◌+◌, ◌*◌, ◌<◌, ◌≤◌, map, length, replicate, take, drop};
 ghost use Rattle.bits.specs.Gf2.{flat, inverse_of, width_of};
 ghost use Rattle.cipher.specs.Sets.{Each, joined};
-ghost use Rattle.files.specs.Format.{byte_width_of, matrices_of, record_size};
+ghost use Rattle.files.specs.Format.{byte_width_of, matrices_of, record_size as size_in_file};
 ghost use Rattle.files.specs.Preparing.{Checked, Inverting, Tried, matrix_at};
 ghost use Rattle.cipher.specs.Laws.{Invertible};
 
-use crate::reader::byte_width;
-use crate::rows::load_rows;
+use crate::rows::Rows;
 use bits::elimination::{Singular, invert};
 use bits::matrix::Matrix;
 use bits::refusal::{Fault, Layer, Refusal};
-use bits::words::width;
 
-// What `invert_record` does, with room for the layer.
-fn invert_in(
-    bytes: &[u8],
-    j: usize,
-    n: u16,
-    layer: &mut [u64],
-    inverse: &mut [u64],
-    vector: &mut [u64],
-) -> Result<(), Singular>
-    requires bytes { j * record_size (byte_width_of n) n + record_size (byte_width_of n) n ≤ length bytes.now }
-    requires most { n ≤ 256 }
-    requires width { length vector.old ≡ width_of n }
-    requires layer { length layer.old ≡ n * width_of n }
-    requires room { length inverse.old ≡ n * width_of n }
-    ensures { Inverting (width_of n) (matrix_at (byte_width_of n) n j bytes.now) inverse.old inverse.new vector.old vector.new result }
-{
-    let size = byte_width(n);
-    let n = n as usize;
-    let from = j * (3 + n * size) + 3;
-    load_rows(&bytes[from..from + n * size], size, n, vector.len(), layer);
-    invert(Matrix::new(layer, vector.len(), n), inverse, vector)
+// The records of so many layers of `n` bits, one after another from the start of `bytes`.
+#[derive(Clone, Copy)]
+pub(crate) struct Layers<'a> {
+    pub(crate) bytes: &'a [u8],
+    pub(crate) n: u16,
+    pub(crate) count: u16,
+    ghost some: { 1 ≤ n },
+    ghost most: { n ≤ 256 },
+    ghost whole: { count * size_in_file (byte_width_of n) n ≤ length bytes.now },
 }
 
-// Inverts the layer of `n` bits in record `j` of those that stand one after another in `bytes`.
-fn invert_record(
-    bytes: &[u8],
-    j: usize,
-    n: u16,
-    inverse: &mut [u64],
-    vector: &mut [u64],
-) -> Result<(), Singular>
-    requires bytes { j * record_size (byte_width_of n) n + record_size (byte_width_of n) n ≤ length bytes.now }
-    requires most { n ≤ 256 }
-    requires width { length vector.old ≡ width_of n }
-    requires room { length inverse.old ≡ n * width_of n }
-    ensures { Inverting (width_of n) (matrix_at (byte_width_of n) n j bytes.now) inverse.old inverse.new vector.old vector.new result }
-{
-    let mut layer = [0u64; 1024];
-    let used = inverse.len();
-    invert_in(bytes, j, n, &mut layer[..used], inverse, vector)
-}
-
-// Whether the layer in record `j` can be inverted; where it cannot, `vector` becomes a witness.
-fn check_layer(bytes: &[u8], j: usize, n: u16, vector: &mut [u64]) -> Result<(), Singular>
-    requires bytes { j * record_size (byte_width_of n) n + record_size (byte_width_of n) n ≤ length bytes.now }
-    requires most { n ≤ 256 }
-    requires zeros { vector.old ≡ replicate 4 0 }
-    ensures { Tried (matrix_at (byte_width_of n) n j bytes.now) vector.new result }
-{
-    let mut inverse = [0u64; 1024];
-    let w = width(n as usize);
-    invert_record(
-        bytes,
-        j,
-        n,
-        &mut inverse[..n as usize * w],
-        &mut vector[..w],
-    )
-}
-
-// Whether each of `count` layers of `n` bits can be inverted; a witness is written where one cannot.
-pub(crate) fn check_layers(
-    bytes: &[u8],
-    n: u16,
-    count: u16,
-    witness: &mut [u64],
-) -> Result<(), Fault>
-    requires bytes { count * record_size (byte_width_of n) n ≤ length bytes.now }
-    requires most { n ≤ 256 }
-    requires room { 4 ≤ length witness.old }
-    ensures { Checked (matrices_of (byte_width_of n) n count bytes.now) count witness.old witness.new result }
-{
-    for j in 0..count as usize {
-        let mut vector = [0u64; 4];
-        if check_layer(bytes, j, n, &mut vector).is_err() {
-            witness[..4].copy_from_slice(&vector);
-            return Err(Fault::at(Refusal::LayerCollapses, Layer::Set, j + 1));
+impl<'a> Layers<'a> {
+    // The rows of each.
+    fn rows(&self) -> Rows
+        ensures { (result.count ≡ self.now.n) × (result.bits ≡ self.now.n) }
+    {
+        Rows {
+            count: self.n,
+            bits: self.n,
         }
     }
-    Ok(())
-}
 
-// Writes the inverses of `count` layers of `n` bits, none of which collapses.
-pub(crate) fn load_inverses(bytes: &[u8], n: u16, count: u16, out: &mut [u64])
-    requires bytes { count * record_size (byte_width_of n) n ≤ length bytes.now }
-    requires most { n ≤ 256 }
-    requires room { length out.old ≡ count * (n * width_of n) }
-    requires invertible { Each Invertible (matrices_of (byte_width_of n) n count bytes.now) }
-    ensures { out.new ≡ flat (width_of n) (joined (map inverse_of (matrices_of (byte_width_of n) n count bytes.now))) }
-{
-    let w = width(n as usize);
-    let piece = n as usize * w;
-    for j in 0..count as usize {
-        let mut vector = [0u64; 4];
-        let to = j * piece;
-        let _ = invert_record(bytes, j, n, &mut out[to..to + piece], &mut vector[..w]);
+    // The body of record `j`.
+    fn body(&self, j: usize) -> &'a [u8]
+        requires { j < self.now.count }
+        ensures { result.now ≡ take (self.now.n * byte_width_of self.now.n) (drop (j * size_in_file (byte_width_of self.now.n) self.now.n + 3) self.now.bytes.now) }
+    {
+        let size = self.rows().record_size();
+        let start = j * size;
+        &self.bytes[start + 3..start + size]
+    }
+
+    // What `invert` does, with room for the layer.
+    fn invert_in(
+        &self,
+        j: usize,
+        layer: &mut [u64],
+        inverse: &mut [u64],
+        vector: &mut [u64],
+    ) -> Result<(), Singular>
+        requires place { j < self.now.count }
+        requires width { length vector.old ≡ width_of self.now.n }
+        requires layer { length layer.old ≡ self.now.n * width_of self.now.n }
+        requires room { length inverse.old ≡ self.now.n * width_of self.now.n }
+        ensures { Inverting (width_of self.now.n) (matrix_at (byte_width_of self.now.n) self.now.n j self.now.bytes.now) inverse.old inverse.new vector.old vector.new result }
+    {
+        let rows = self.rows();
+        rows.load(self.body(j), layer);
+        invert(
+            Matrix::new(layer, rows.width(), self.n.into()),
+            inverse,
+            vector,
+        )
+    }
+
+    // Inverts the layer in record `j`.
+    fn invert(&self, j: usize, inverse: &mut [u64], vector: &mut [u64]) -> Result<(), Singular>
+        requires place { j < self.now.count }
+        requires width { length vector.old ≡ width_of self.now.n }
+        requires room { length inverse.old ≡ self.now.n * width_of self.now.n }
+        ensures { Inverting (width_of self.now.n) (matrix_at (byte_width_of self.now.n) self.now.n j self.now.bytes.now) inverse.old inverse.new vector.old vector.new result }
+    {
+        let mut layer = [0u64; 1024];
+        let used = inverse.len();
+        self.invert_in(j, &mut layer[..used], inverse, vector)
+    }
+
+    // Whether the layer in record `j` can be inverted; where it cannot, `vector` becomes a witness.
+    fn check_layer(&self, j: usize, vector: &mut [u64]) -> Result<(), Singular>
+        requires place { j < self.now.count }
+        requires zeros { vector.old ≡ replicate 4 0 }
+        ensures { Tried (matrix_at (byte_width_of self.now.n) self.now.n j self.now.bytes.now) vector.new result }
+    {
+        let mut inverse = [0u64; 1024];
+        let rows = self.rows();
+        self.invert(j, &mut inverse[..rows.words()], &mut vector[..rows.width()])
+    }
+
+    // Whether each can be inverted; a witness is written where one cannot.
+    pub(crate) fn check(&self, witness: &mut [u64]) -> Result<(), Fault>
+        requires { 4 ≤ length witness.old }
+        ensures { Checked (matrices_of (byte_width_of self.now.n) self.now.n self.now.count self.now.bytes.now) self.now.count witness.old witness.new result }
+    {
+        for j in 0..usize::from(self.count) {
+            let mut vector = [0u64; 4];
+            if let Err(Singular) = self.check_layer(j, &mut vector) {
+                witness[..4].copy_from_slice(&vector);
+                return Err(Fault::at(Refusal::LayerCollapses, Layer::Set, j + 1));
+            }
+        }
+        Ok(())
+    }
+
+    // Writes their inverses; none of them collapses.
+    pub(crate) fn load_inverses(&self, out: &mut [u64])
+        requires room { length out.old ≡ self.now.count * (self.now.n * width_of self.now.n) }
+        requires invertible { Each Invertible (matrices_of (byte_width_of self.now.n) self.now.n self.now.count self.now.bytes.now) }
+        ensures { out.new ≡ flat (width_of self.now.n) (joined (map inverse_of (matrices_of (byte_width_of self.now.n) self.now.n self.now.count self.now.bytes.now))) }
+    {
+        let rows = self.rows();
+        let (w, piece) = (rows.width(), rows.words());
+        for j in 0..usize::from(self.count) {
+            let mut vector = [0u64; 4];
+            let to = j * piece;
+            let _ = self.invert(j, &mut out[to..to + piece], &mut vector[..w]);
+        }
     }
 }

@@ -1,12 +1,12 @@
 // The stepping reader: it walks over a set file record by record, and hands out each as a part of the file.
-ghost use Rattle.std.specs.Prelude.{◌≡◌, ℕ, ◌+◌, ◌*◌, ◌^◌, ◌<◌, ◌≤◌, [], ◌∷◌, length, IfOk, slice_index};
-ghost use Rattle.files.specs.Faults.{body_slots, record_slots, seen};
-ghost use Rattle.files.specs.Format.{byte_width_of, first, second};
+ghost use Rattle.std.specs.Prelude.{◌≡◌, ℕ, ◌+◌, ◌*◌, ◌^◌, ◌<◌, ◌≤◌, [], ◌∷◌, length, drop, IfOk};
+ghost use Rattle.files.specs.Faults.{record_slots, seen};
 ghost use Rattle.files.specs.Walks.{WholeFile};
-ghost use Rattle.files.specs.Steps.{Numbered, Stepped, after_header, at_start, body_size_of, head_size_of, mark_of, params_at, state_of};
+ghost use Rattle.files.specs.Steps.{NumberedTo, Stepped, after_header, at_start, body_size_of, head_size_of, mark_or_wrong, next_of, params_at, state_of};
 ghost use Rattle.files.specs.Reading.{header as header_in};
 ghost use Rattle.files.specs.Surveys.{Advanced, Sound, judged_from, look_of};
 
+use crate::rows::{Rows, byte_width};
 use bits::refusal::{Fault, Layer as Part, Refusal};
 use cipher::params::Params;
 
@@ -39,47 +39,62 @@ pub struct Reader<'a> {
     params: Params,
 }
 
-// The mark that two bytes are.
-fn mark_of(letters: [u8; 2]) -> Option<Mark>
-    ensures { result ≡ mark_of (slice_index letters 0) (slice_index letters 1) }
-{
-    match letters {
-        [b'P', b'R'] => Some(Mark::Header),
-        [b'L', b'M'] => Some(Mark::Layer),
-        [b'R', b'C'] => Some(Mark::Constant),
-        [b'K', b'M'] => Some(Mark::Key),
-        [b'E', b'N'] => Some(Mark::End),
-        _ => None,
+impl TryFrom<[u8; 2]> for Mark {
+    type Error = Refusal;
+
+    ghost try_from_gives = { λ letters r. r ≡ mark_or_wrong letters };
+
+    // The mark that two letters are.
+    fn try_from(letters: [u8; 2]) -> Result<Mark, Refusal>
+        ensures { result ≡ mark_or_wrong letters }
+    {
+        match &letters {
+            b"PR" => Ok(Mark::Header),
+            b"LM" => Ok(Mark::Layer),
+            b"RC" => Ok(Mark::Constant),
+            b"KM" => Ok(Mark::Key),
+            b"EN" => Ok(Mark::End),
+            _ => Err(Refusal::WrongMark),
+        }
     }
 }
 
-// How many bytes hold so many bits.
-pub(crate) fn byte_width(bits: u16) -> usize
-    ensures { result ≡ byte_width_of bits }
-{
-    (bits as usize).div_ceil(8)
-}
-
-// Bytes before a record's body: its mark, and its number if it has one.
-fn head_size(mark: Mark) -> usize
-    ensures { result ≡ head_size_of mark }
-{
-    match mark {
-        Mark::Header | Mark::End => 2,
-        Mark::Layer | Mark::Constant | Mark::Key => 3,
+impl Mark {
+    // Bytes before a record's body: its mark, and its number if it has one.
+    fn head_size(self) -> usize
+        ensures { result ≡ head_size_of self }
+    {
+        match self {
+            Mark::Header | Mark::End => 2,
+            Mark::Layer | Mark::Constant | Mark::Key => 3,
+        }
     }
-}
 
-// Bytes of a record's body.
-fn body_size(params: Params, mark: Mark) -> usize
-    ensures { result ≡ body_size_of params mark }
-{
-    match mark {
-        Mark::Header => 6,
-        Mark::Layer => params.n as usize * byte_width(params.n),
-        Mark::Constant => byte_width(params.n),
-        Mark::Key => params.n as usize * byte_width(params.k),
-        Mark::End => 0,
+    // Bytes of a record's body.
+    fn body_size(self, params: Params) -> usize
+        ensures { result ≡ body_size_of params self }
+    {
+        let Params { n, k, .. } = params;
+        match self {
+            Mark::Header => 6,
+            Mark::Layer => usize::from(n) * byte_width(n),
+            Mark::Constant => byte_width(n),
+            Mark::Key => usize::from(n) * byte_width(k),
+            Mark::End => 0,
+        }
+    }
+
+    // What is due after the last record of a mark, and the number that it has.
+    fn next(self) -> (Option<Mark>, u16)
+        ensures { result ≡ next_of self }
+    {
+        match self {
+            Mark::Header => (Some(Mark::Layer), 1),
+            Mark::Layer => (Some(Mark::Constant), 1),
+            Mark::Constant => (Some(Mark::Key), 0),
+            Mark::Key => (Some(Mark::End), 0),
+            Mark::End => (None, 0),
+        }
     }
 }
 
@@ -96,67 +111,13 @@ fn params_at(file: &[u8], at: usize) -> Params
     }
 }
 
-// The two letters of a mark.
-fn letters_of(mark: Mark) -> [u8; 2]
-    ensures { result ≡ first mark ∷ second mark ∷ [] }
-{
-    match mark {
-        Mark::Header => [b'P', b'R'],
-        Mark::Layer => [b'L', b'M'],
-        Mark::Constant => [b'R', b'C'],
-        Mark::Key => [b'K', b'M'],
-        Mark::End => [b'E', b'N'],
-    }
-}
-
-// The first stray bit in `count` rows of `bits` bits, of which `bytes` has the start and `at` is the place: only a row's last byte can have one.
-fn look_rows(bytes: &[u8], at: usize, count: u16, bits: u16) -> Result<(), Fault>
-    requires some { 1 ≤ bits }
-    requires place { at + length bytes.now < 2 ^ 64 }
-    ensures { result ≡ seen at (body_slots (byte_width_of bits) bits count) bytes.now }
-{
-    let size = byte_width(bits);
-    let limit = 1u16 << (bits as usize - 8 * (size - 1));
-    for i in 0..count as usize {
-        let last = i * size + size - 1;
-        if last >= bytes.len() {
-            return Ok(());
-        }
-        if u16::from(bytes[last]) >= limit {
-            return Err(Fault::at(Refusal::StrayBit, Part::File, at + last));
-        }
-    }
-    Ok(())
-}
-
-// The first wrong place in a record of a series, of which `bytes` has the start and `at` is the place.
-fn look_record(
-    bytes: &[u8],
-    at: usize,
-    mark: Mark,
-    number: u16,
-    count: u16,
-    bits: u16,
-) -> Result<(), Fault>
-    requires some { 1 ≤ bits }
-    requires place { at + length bytes.now < 2 ^ 64 }
-    ensures { result ≡ seen at (record_slots mark bits count number) bytes.now }
-{
-    let [first, second] = letters_of(mark);
-    if bytes.len() < 2 {
-        return Ok(());
-    }
-    if bytes[0] != first || bytes[1] != second {
-        return Err(Fault::at(Refusal::WrongMark, Part::File, at));
-    }
-    if bytes.len() < 3 {
-        return Ok(());
-    }
-    if u16::from(bytes[2]) != number {
-        return Err(Fault::at(Refusal::WrongNumber, Part::File, at + 2));
-    }
-    look_rows(&bytes[3..], at + 3, count, bits)
-}
+// Before the header is read.
+const NO_PARAMS: Params = Params {
+    n: 0,
+    k: 0,
+    m: 0,
+    r: 0,
+};
 
 impl<'a> Reader<'a> {
     // A reader before the header of `file`.
@@ -164,18 +125,12 @@ impl<'a> Reader<'a> {
         ensures file { result.file ≡ file.entry }
         ensures state { state_of result ≡ at_start }
     {
-        let params = Params {
-            n: 0,
-            k: 0,
-            m: 0,
-            r: 0,
-        };
         Reader {
             file,
             at: 0,
             due: Some(Mark::Header),
             round: 0,
-            params,
+            params: NO_PARAMS,
         }
     }
 
@@ -186,21 +141,20 @@ impl<'a> Reader<'a> {
         self.params // as the header gave them
     }
 
-    // Past a record of a series: its number, if it is the one due. After the last round the series that begins with `next` and `first` is due.
-    fn numbered(&mut self, number: u8, mark: Mark, next: Mark, first: u16) -> Result<u8, Fault>
-        requires { self.old.at + 2 < 2 ^ 64 }
+    // Past a record of a series: its number, if it is the one due. After the last round what follows the series is due.
+    fn numbered(&mut self, mark: Mark, number: u8) -> Result<u8, Fault>
+        requires place { self.old.at + 2 < 2 ^ 64 }
+        requires due { self.old.due ≡ Some mark }
         ensures file { self.new.file ≡ self.old.file }
-        ensures number { Numbered (state_of self.old) number mark next first (state_of self.new) result }
+        ensures number { NumberedTo (state_of self.old) number mark (state_of self.new) result }
     {
         if u16::from(number) != self.round {
             return Err(Fault::at(Refusal::WrongNumber, Part::File, self.at + 2));
         }
         if self.round < self.params.r {
-            self.due = Some(mark);
             self.round += 1;
         } else {
-            self.due = Some(next);
-            self.round = first;
+            (self.due, self.round) = mark.next();
         }
         Ok(number)
     }
@@ -216,17 +170,37 @@ impl<'a> Reader<'a> {
         Ok(self.params)
     }
 
+    // The first wrong place in the record due, one of a series with these rows, as far as it is there.
+    fn look_record(&self, mark: Mark, rows: Rows) -> Result<(), Fault>
+        requires { self.now.at ≤ length self.now.file.now }
+        ensures { result ≡ seen self.now.at (record_slots mark rows.bits rows.count self.now.round) (drop self.now.at self.now.file.now) }
+    {
+        let at = self.at;
+        let Some((letters, rest)) = self.file[at..].split_first_chunk() else {
+            return Ok(());
+        };
+        if Mark::try_from(*letters) != Ok(mark) {
+            return Err(Fault::at(Refusal::WrongMark, Part::File, at));
+        }
+        let Some((&found, body)) = rest.split_first() else {
+            return Ok(());
+        };
+        if u16::from(found) != self.round {
+            return Err(Fault::at(Refusal::WrongNumber, Part::File, at + 2));
+        }
+        rows.look(body, at + 3)
+    }
+
     // What is wrong with the record due, if it is one of a series, as far as it is there.
     fn look(&self) -> Result<(), Fault>
         requires { Sound self.now.file.now (state_of self.now) }
         ensures { result ≡ look_of self.now.file.now (state_of self.now) }
     {
         let Params { n, k, .. } = self.params;
-        let rest = &self.file[self.at..];
         match self.due {
-            Some(Mark::Layer) => look_record(rest, self.at, Mark::Layer, self.round, n, n),
-            Some(Mark::Constant) => look_record(rest, self.at, Mark::Constant, self.round, 1, n),
-            Some(Mark::Key) => look_record(rest, self.at, Mark::Key, self.round, n, k),
+            Some(Mark::Layer) => self.look_record(Mark::Layer, Rows { count: n, bits: n }),
+            Some(Mark::Constant) => self.look_record(Mark::Constant, Rows { count: 1, bits: n }),
+            Some(Mark::Key) => self.look_record(Mark::Key, Rows { count: n, bits: k }),
             _ => Ok(()),
         }
     }
@@ -241,39 +215,27 @@ impl<'a> Reader<'a> {
         let Some(due) = self.due else {
             return Ok(None);
         };
-        let head = head_size(due);
-        let size = body_size(self.params, due);
+        let head = due.head_size();
+        let size = due.body_size(self.params);
         if file.len().saturating_sub(at) < head + size {
             return Err(Fault::at(Refusal::Truncated, Part::File, file.len()));
         }
-        let number = match (due, mark_of([file[at], file[at + 1]])) {
-            (Mark::Header, Some(Mark::Header)) => {
+        let number = match (due, Mark::try_from([file[at], file[at + 1]])) {
+            (Mark::Header, Ok(Mark::Header)) => {
                 let params = params_at(file, at + 2);
                 params.check()?;
                 self.params = params;
-                self.due = Some(Mark::Layer);
-                self.round = 1;
+                (self.due, self.round) = due.next();
                 0
             }
-            (Mark::Layer, Some(Mark::Layer)) => self.numbered(
-                file[at + 2],
-                Mark::Layer,
-                Mark::Constant,
-                1,
-            )?,
-            (Mark::Constant, Some(Mark::Constant)) => self.numbered(
-                file[at + 2],
-                Mark::Constant,
-                Mark::Key,
-                0,
-            )?,
-            (Mark::Key, Some(Mark::Key)) => self.numbered(file[at + 2], Mark::Key, Mark::End, 0)?,
-            (Mark::End, Some(Mark::End)) => {
+            (Mark::Layer, Ok(Mark::Layer))
+            | (Mark::Constant, Ok(Mark::Constant))
+            | (Mark::Key, Ok(Mark::Key)) => self.numbered(due, file[at + 2])?,
+            (Mark::End, Ok(Mark::End)) => {
                 if at + 2 < file.len() {
                     return Err(Fault::at(Refusal::WrongMark, Part::File, at + 2));
                 }
-                self.due = None;
-                self.round = 0;
+                (self.due, self.round) = due.next();
                 0
             }
             _ => {
@@ -290,17 +252,14 @@ impl<'a> Reader<'a> {
         }))
     }
 
-    // One record further: refused where something is wrong with it, by the lowest place; false where none was left.
-    fn advance(&mut self) -> Result<bool, Fault>
+    // One record further, which is handed on: refused where something is wrong with it, by the lowest place; none where none was left.
+    fn advance(&mut self) -> Result<Option<Record<'a>>, Fault>
         requires { Sound self.old.file.now (state_of self.old) }
         ensures file { self.new.file ≡ self.old.file }
         ensures moved { Advanced self.old.file.now (state_of self.old) (state_of self.new) result }
     {
         self.look()?;
-        match self.step()? {
-            Some(_) => Ok(true),
-            None => Ok(false),
-        }
+        self.step()
     }
 
     // Walks over the rest of the file after its header, and refuses it by the lowest place at which something is wrong.
@@ -308,14 +267,12 @@ impl<'a> Reader<'a> {
         requires { Sound self.old.file.now (state_of self.old) }
         ensures { result ≡ judged_from self.old.file.now (state_of self.old) }
     {
-        while self.advance()? {}
+        while self.advance()?.is_some() {}
         Ok(())
     }
 }
 
 // The records of a file that is stepped through to its end, each as its mark, number and body, are that file: no byte is passed over, none is left.
-pub fn steps_stand() -> u8
+pub fn steps_stand()
     ensures { WholeFile }
-{
-    0
-}
+{}

@@ -6,14 +6,14 @@ ghost use Rattle.files.specs.Format.{end_at, set_of};
 ghost use Rattle.files.specs.Reading.{Clashing, Exact, Opens, Read, room};
 ghost use Rattle.cipher.specs.Laws.{Invertible};
 
-use crate::layers::{check_layers, load_inverses};
-use crate::reader::{Reader, byte_width};
-use crate::rows::load_records;
+use crate::layers::Layers;
+use crate::reader::Reader;
+use crate::rows::Rows;
 use bits::refusal::{Fault, Layer, Refusal};
 use cipher::params::Params;
 
 // Where a set's witness goes: the words of the widest block.
-const WITNESS_WORDS: usize = 4;
+pub const WITNESS_WORDS: usize = 4;
 
 // Refuses too little room for the prepared words, then for a witness.
 fn check_room(params: Params, words: usize, witness: usize) -> Result<(), Fault>
@@ -29,45 +29,50 @@ fn check_room(params: Params, words: usize, witness: usize) -> Result<(), Fault>
     Ok(())
 }
 
-// Writes the prepared words of a file that passed every check: layers, constants, key matrices, inverses.
-fn prepare(file: &[u8], params: Params, words: &mut [u64])
-    requires limits { Lawful params }
-    requires whole { end_at params ≤ length file.now }
-    requires room { prepared_words_of params ≤ length words.old }
-    requires invertible { Each Invertible (set_of params file.now).layers }
-    ensures { words.new ≡ prepared (set_of params file.now) ++ drop (prepared_words_of params) words.old }
-{
-    let (n, r) = (params.n as usize, params.r as usize);
-    let (w, v) = (params.block_words(), params.key_words());
-    let (row, key_row) = (byte_width(params.n), byte_width(params.k));
-    let constants_at = 8 + r * (3 + n * row);
-    let keys_at = constants_at + r * (3 + row);
-    let constants = r * (n * w);
-    let keys = constants + r * w;
-    let inverses = keys + (r + 1) * (n * v);
-    load_records(&file[8..], row, n, r, w, &mut words[..constants]);
-    load_records(
-        &file[constants_at..],
-        row,
-        1,
-        r,
-        w,
-        &mut words[constants..keys],
-    );
-    load_records(
-        &file[keys_at..],
-        key_row,
-        n,
-        r + 1,
-        v,
-        &mut words[keys..inverses],
-    );
-    load_inverses(
-        &file[8..],
-        params.n,
-        params.r,
-        &mut words[inverses..inverses + constants],
-    );
+// A file that passed the checks of its bytes, with the parameters of its header.
+#[derive(Clone, Copy)]
+struct SetFile<'a> {
+    file: &'a [u8],
+    params: Params,
+    ghost limits: { Lawful params },
+    ghost whole: { end_at params ≤ length file.now },
+}
+
+impl<'a> SetFile<'a> {
+    // Its layers.
+    fn layers(&self) -> Layers<'a>
+        ensures bytes { result.bytes.now ≡ drop 8 self.now.file.now }
+        ensures form { (result.n ≡ self.now.params.n) × (result.count ≡ self.now.params.r) }
+    {
+        Layers {
+            bytes: &self.file[8..],
+            n: self.params.n,
+            count: self.params.r,
+        }
+    }
+
+    // Writes its prepared words: layers, constants, key matrices, inverses.
+    fn prepare(&self, words: &mut [u64])
+        requires room { prepared_words_of self.now.params ≤ length words.old }
+        requires invertible { Each Invertible (set_of self.now.params self.now.file.now).layers }
+        ensures { words.new ≡ prepared (set_of self.now.params self.now.file.now) ++ drop (prepared_words_of self.now.params) words.old }
+    {
+        let Params { n, k, r, .. } = self.params;
+        let r = usize::from(r);
+        let layers = Rows { count: n, bits: n };
+        let constants = Rows { count: 1, bits: n };
+        let keys = Rows { count: n, bits: k };
+        let from_layers = &self.file[8..];
+        let from_constants = &from_layers[r * layers.record_size()..];
+        let from_keys = &from_constants[r * constants.record_size()..];
+        let (layer_words, rest) = words.split_at_mut(r * layers.words());
+        let (constant_words, rest) = rest.split_at_mut(r * constants.words());
+        let (key_words, rest) = rest.split_at_mut((r + 1) * keys.words());
+        layers.load_records(from_layers, r, layer_words);
+        constants.load_records(from_constants, r, constant_words);
+        keys.load_records(from_keys, r + 1, key_words);
+        self.layers().load_inverses(&mut rest[..r * layers.words()]);
+    }
 }
 
 // Reads a set: its parameters, with the prepared words written. Refused, the words are as before; the witness is written
@@ -82,7 +87,8 @@ pub fn read(file: &[u8], words: &mut [u64], witness: &mut [u64]) -> Result<Param
     let params = reader.header()?;
     check_room(params, words.len(), witness.len())?;
     reader.survey()?;
-    check_layers(&file[8..], params.n, params.r, witness)?;
-    prepare(file, params, words);
+    let set = SetFile { file, params };
+    set.layers().check(witness)?;
+    set.prepare(words);
     Ok(params)
 }

@@ -2,14 +2,14 @@
 ghost use Rattle.std.specs.Prelude.{◌≡◌, take, IfOk, Some, string_bytes};
 ghost use Rattle.files.specs.Line.{Judged, Reported, line_of};
 
-use crate::reading::read;
+use crate::reading::{WITNESS_WORDS, read};
 use bits::refusal::Fault;
 use cipher::params::Params;
 use std::alloc::{AllocError, Global};
 use std::fmt;
 
 // How much of a file the report looks at, and the words that it has for the set.
-const MOST_BYTES: usize = 65536;
+pub const MOST_BYTES: usize = 65536;
 
 const SET_WORDS: usize = 8192;
 
@@ -24,12 +24,9 @@ impl fmt::Display for Verdict {
         match self.0 {
             Ok(p) => {
                 let gates = p.gates();
-                write!(f, "OK {} {} {} {} {}\n", p.n, p.k, p.m, p.r, gates)
+                writeln!(f, "OK {} {} {} {} {}", p.n, p.k, p.m, p.r, gates)
             }
-            Err(e) => {
-                let number = e.refusal.number();
-                write!(f, "NO {} {}\n", number, e.place)
-            }
+            Err(e) => writeln!(f, "NO {} {}", e.refusal, e.place),
         }
     }
 }
@@ -38,11 +35,7 @@ impl fmt::Display for Verdict {
 fn front(file: &[u8]) -> &[u8]
     ensures { result.now ≡ take 65536 file.now }
 {
-    if file.len() > MOST_BYTES {
-        &file[..MOST_BYTES]
-    } else {
-        file
-    }
+    &file[..MOST_BYTES.min(file.len())]
 }
 
 // What reading says of the first bytes of a file.
@@ -50,20 +43,13 @@ fn judge(file: &[u8]) -> Verdict
     ensures { Judged (take 65536 file.now) result.0 }
 {
     let mut words = [0u64; SET_WORDS];
-    let mut witness = [0u64; 4];
+    let mut witness = [0u64; WITNESS_WORDS];
     Verdict(read(front(file), &mut words, &mut witness))
-}
-
-// A verdict as a line.
-fn line(heap: Global, verdict: Verdict) -> Result<String, AllocError>
-    ensures { IfOk result (λ s. string_bytes s ≡ line_of verdict.0) }
-{
-    format!(in heap; "{verdict}")
 }
 
 // The line that reports on the first bytes of a file, with room for a set of so many words.
 pub fn report(heap: Global, file: &[u8]) -> Result<String, AllocError>
     ensures { IfOk result (λ s. Reported (take 65536 file.now) (string_bytes s)) }
 {
-    line(heap, judge(file))
+    judge(file).to_string(heap)
 }

@@ -10,13 +10,13 @@ use std::io::Read;
 pub fn read_front(input: &mut impl Read, buffer: &mut [u8]) -> io::Result<usize>
     ensures { IfOk result (λ n. n ≤ length buffer.old) }
 {
-    let mut got = 0;
-    while got < buffer.len() {
-        let n = input.read(&mut buffer[got..])?;
-        if n == 0 {
-            break;
+    let mut filled = 0;
+    // by hand: `read_exact` fails where the input ends, and `io::copy` does not say that it copies no more than fits
+    while filled < buffer.len() {
+        match input.read(&mut buffer[filled..])? {
+            0 => break,
+            n => filled += n,
         }
-        got += n;
     }
-    Ok(got)
+    Ok(filled)
 }

@@ -1,9 +1,6 @@
-use Rattle.std.proofs.Common.{sym, arith}
-use Rattle.std.proofs.lemmas.List.{length-take-le, take_all}
+use Rattle.std.proofs.Common.{take, ap, ◌∙◌}
+use Rattle.std.proofs.lemmas.List.{take_min}
 use Rattle.files.proofs.report.front.Goals as goal
 
-pub slice_bounds-result-end : goal.slice_bounds-result-end
-slice_bounds-result-end c = sym (length-take-le 65536 c.args.file.now (omega arith))
-
-pub returns-else-file-gt-MOST_BYTES : goal.returns-else-file-gt-MOST_BYTES
-returns-else-file-gt-MOST_BYTES c = sym (take_all 65536 c.args.file.now (omega arith))
+pub returns : goal.returns
+returns c = ap (λ k. take k c.args.file.now) c.min.ensures ∙ take_min 65536 c.args.file.now
