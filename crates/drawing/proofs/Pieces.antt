@@ -1,13 +1,12 @@
 -- Pieces written one after another.
-use Rattle.std.proofs.Common.{◌≡◌, ℕ, ◌+◌, ◌*◌, ◌^◌, ◌<◌, ◌≤◌, List, [], ◌∷◌, ◌++◌, length, take, drop, sym, refl, ap, ◌∙◌, ap₂, suc-mul, add-one, arith, length-append, length-drop, length-take, pow_mono}
+use Rattle.std.proofs.Common.{◌≡◌, ℕ, ◌+◌, ◌*◌, ◌^◌, ◌<◌, ◌≤◌, List, [], ◌∷◌, ◌++◌, length, take, sym, ap, ◌∙◌, ap₂, suc-mul, add-one, arith, pow_mono}
 use borrow.Rule.Slice.PartMut.{put_mid}
-use Rattle.std.proofs.lemmas.List.{append_assoc, append-nil, drop-append-le, drop-drop, drop-take, length_push}
-use Rattle.std.proofs.lemmas.Slice.{drop-put_mid, take-put_mid, take-put_mid_below}
+use Rattle.std.proofs.lemmas.List.{append_assoc, append-nil, length_push}
+use Rattle.std.proofs.lemmas.Slice.{take-put_mid}
 use Rattle.bits.specs.Gf2.{Below, flat, rows, words_of}
 use Rattle.bits.proofs.Vectors.{length_flat, rows_flat}
 use Rattle.cipher.specs.Sets.{Each, Matrix, joined}
 use Rattle.cipher.proofs.Opens.{flat_append}
-use Rattle.drawing.specs.Drawing.{over}
 
 pub one_more : (i s : ℕ) → (i + 1) * s ≡ i * s + s
 one_more i s = ap (λ (k : ℕ). k * s) (add-one i) ∙ suc-mul i s
@@ -50,34 +49,3 @@ read_back n k v w M ws m h e is =
 -- how long a matrix is in memory
 pub length_matrix : (n k v : ℕ) (M ws : List ℕ) → Matrix n k M → ws ≡ flat v M → length ws ≡ n * v
 length_matrix n k v M ws m is = ap length is ∙ length_flat v M ∙ ap (λ (i : ℕ). i * v) m.size
-
--- ---- layers in front, and their inverses from a place on
-
-take_over : (n at : ℕ) (piece xs : List ℕ) → n ≤ at → at ≤ length xs → take n (over at piece xs) ≡ take n xs
-take_over n at piece xs h l = take-put_mid_below at (length piece) xs piece n h l
-
-drop_over : (n at : ℕ) (piece xs : List ℕ) → at + length piece ≤ n → at ≤ length xs → drop n (over at piece xs) ≡ drop n xs
-drop_over n at piece xs h l = drop-put_mid at (length piece) xs piece n h l refl
-
-over_later : (n at : ℕ) (piece xs : List ℕ) → n + at ≤ length xs → drop n (over (n + at) piece xs) ≡ over at piece (drop n xs)
-over_later n at piece xs h =
-    let l : n ≤ length (take (n + at) xs) = simp length-take (omega arith) in
-    drop-append-le n (take (n + at) xs) (piece ++ drop (length piece) (drop (n + at) xs)) l
-    ∙ ap₂ (λ (a b : List ℕ). a ++ (piece ++ drop (length piece) b)) (drop-take n at xs) (sym (drop-drop at n xs))
-
-pub two_written : (s i second : ℕ) (words one other front back : List ℕ) → i * s + s ≤ second → second + i * s + s ≤ length words → length one ≡ s → length other ≡ s
-    → take (i * s) words ≡ front → take (i * s) (drop second words) ≡ back
-    → (take ((i + 1) * s) (over (second + i * s) other (over (i * s) one words)) ≡ front ++ one)
-    × (take ((i + 1) * s) (drop second (over (second + i * s) other (over (i * s) one words))) ≡ back ++ other)
-two_written s i second words one other front back hf hs lo lt ef eb =
-    let mid : List ℕ = over (i * s) one words in
-    let lm : length mid ≡ length words = same_length (i * s) one words (omega arith) in (
-      take_over ((i + 1) * s) (second + i * s) other mid (omega (arith, one_more i s)) (omega arith)
-          ∙ filled s i (length one) words one front (omega arith) lo ef,
-      ap (take ((i + 1) * s)) (over_later second (i * s) other mid (omega arith))
-          ∙ filled s i (length other) (drop second mid) other back (simp length-drop (omega arith)) lt
-          (ap (take (i * s)) (drop_over second (i * s) one words (omega arith) (omega arith)) ∙ eb),
-    )
-  where
-    same_length : (at : ℕ) (piece xs : List ℕ) → at + length piece ≤ length xs → length (over at piece xs) ≡ length xs
-    same_length at piece xs h = simp (length-append, length-take, length-drop) (omega arith)

@@ -1,42 +1,18 @@
 -- A whole set from its parts.
-use Rattle.std.proofs.Common.{◌≡◌, ℕ, ◌+◌, ◌-◌, ◌*◌, ◌<◌, ◌≤◌, Bool, ltb, List, [], ◌∷◌, ◌++◌, map, length, take, drop, replicate, Ok, Err, Result, sym, refl, ap, ◌∙◌, subst, ap₂, mul_assoc, zero-add, arith}
-use borrow.Rule.Slice.PartMut.{put_mid}
-use Rattle.std.proofs.lemmas.List.{append_assoc, drop_at, drop-drop}
-use Rattle.std.proofs.lemmas.Slice.{drop-put_mid, take-put_mid}
+use Rattle.std.proofs.Common.{◌≡◌, ℕ, ◌+◌, ◌<◌, ◌≤◌, Bool, ltb, List, [], ◌∷◌, ◌++◌, length, drop, replicate, Ok, Err, Result, sym, refl, ap, ◌∙◌, subst, ap₂, zero-add, arith}
+use Rattle.std.proofs.lemmas.List.{drop_at}
 use Rattle.std.proofs.lemmas.Bool.{le-ltb, lt-ltb}
 use Rattle.bits.specs.declared.refusal.Refusal.TheVariants.{KeyTooNarrow, TooFewWords}
 use Rattle.bits.specs.declared.refusal.Layer.TheVariants.{Draw, Set as SetLayer}
 use Rattle.bits.specs.declared.refusal.Fault.{Fault}
 use Rattle.bits.specs.Refusals.{fault_at, first_of, then}
-use Rattle.bits.specs.Gf2.{flat, inverse_of}
-use Rattle.bits.proofs.Vectors.{length_flat}
 use Rattle.cipher.specs.declared.params.Params.{Params}
-use Rattle.cipher.specs.Parameters.{Lawful, block_words_of, key_words_of, limits, prepared_words_of}
-use Rattle.cipher.specs.Sets.{Matrix, Set, joined, prepared}
+use Rattle.cipher.specs.Parameters.{Lawful, limits, prepared_words_of}
+use Rattle.cipher.specs.Sets.{Matrix, Set, prepared}
 use Rattle.cipher.specs.Instances.{opening, set_in}
-use Rattle.cipher.proofs.Opens.{length_joined, prepared_holds, prepared_opens}
+use Rattle.cipher.proofs.Opens.{prepared_holds, prepared_opens}
 use Rattle.drawing.specs.Streams.{Sees, Stream}
 use Rattle.drawing.specs.Drawing.{Drawn, Draws, Keys, Layers, Opens, Sound, SoundSet, Took, counted, drawn_set, kept_key, kept_layer, matrix, ready, several, stop, words_after}
-
--- two parts are written, one after another
-pub assembled : (a b c k l : ℕ) (ws B C : List ℕ) → a ≤ b → b ≤ c → c ≤ length ws → length B ≡ b - a → length C ≡ c - b → k ≡ b - a → l ≡ c - b
-    → put_mid b l (put_mid a k ws B) C ≡ take a ws ++ (B ++ (C ++ drop c ws))
-assembled a b c k l ws B C ab bc cl lb lc ek el =
-    let X : List ℕ = put_mid a k ws B in
-    let n : b + l ≡ c = omega arith in
-    ap₂ (λ (xs ys : List ℕ). xs ++ (C ++ ys)) (take-put_mid a k ws B b (omega arith) (omega arith))
-    (drop-drop l b X ∙ ap (λ (i : ℕ). drop i X) n ∙ drop-put_mid a k ws B c (omega arith) (omega arith) (lb ∙ sym ek))
-    ∙ append_assoc (take a ws) B (C ++ drop c ws)
-
--- and the words are those of the set
-pub whole : (p : Params) (Ls : List (List ℕ)) (Cs : List ℕ) (Ks : List (List ℕ)) (a c : ℕ) (ws B C : List ℕ) → take a ws ≡ flat (block_words_of p) (joined Ls)
-    → B ≡ flat (block_words_of p) Cs → C ≡ flat (key_words_of p) (joined Ks) → drop c ws ≡ flat (block_words_of p) (joined (map inverse_of Ls))
-    → take a ws ++ (B ++ (C ++ drop c ws)) ≡ prepared (record { params = p; layers = Ls; constants = Cs; keys = Ks })
-whole p Ls Cs Ks a c ws B C ea eb ec ed = ap₂ ◌++◌ ea (ap₂ ◌++◌ eb (ap₂ ◌++◌ ec ed))
-
-pub length_keys : (n k v count : ℕ) (Ks : List (List ℕ)) (ws : List ℕ) → Keys n k count Ks → ws ≡ flat v (joined Ks) → length ws ≡ count * (n * v)
-length_keys n k v count Ks ws m is =
-    ap length is ∙ length_flat v (joined Ks) ∙ ap (λ (i : ℕ). i * v) (length_joined n k count Ks m.size m.each) ∙ mul_assoc count n v
 
 -- ---- the steps of a set
 
@@ -71,16 +47,14 @@ module _ (f : Stream) (p : Params) where
   unfolding thirds
   keyed at q Ls Cs h i = after_layers at Ls h ∙ ap (thirds Ls) i
 
-  -- the key matrices come last: what they answer is the answer
-  pub keys_last : (at q : ℕ) (Ls : List (List ℕ)) (Cs : List ℕ) (P : List (List ℕ) → Type 0) (Q : Set → Type 0)
-      → several (kept_layer f p.n) p.r 0 ≡ Ok (Ls, at) → matrix f p.r p.n at ≡ Ok (Cs, q)
-      → ((Ks : List (List ℕ)) → P Ks → Q (record { params = p; layers = Ls; constants = Cs; keys = Ks }))
-      → (r : Result ℕ Fault) (g : Stream) → Took f (several (kept_key f p.n p.k) (p.r + 1) q) P r g → Took f (drawn_set f p) Q r g
+  pub keys_stop : (at q : ℕ) (Ls : List (List ℕ)) (Cs : List ℕ) (e : Fault) → several (kept_layer f p.n) p.r 0 ≡ Ok (Ls, at) → matrix f p.r p.n at ≡ Ok (Cs, q)
+      → several (kept_key f p.n p.k) (p.r + 1) q ≡ Err e → drawn_set f p ≡ Err e
+  keys_stop at q Ls Cs e h i k = keyed at q Ls Cs h i ∙ ap (λ (d : Drawn (List (List ℕ))). then d (λ Ks. Ok (made p Ls Cs Ks.0, Ks.1))) k
+
+  pub keys_drawn : (at q z : ℕ) (Ls : List (List ℕ)) (Cs : List ℕ) (Ks : List (List ℕ)) → several (kept_layer f p.n) p.r 0 ≡ Ok (Ls, at) → matrix f p.r p.n at ≡ Ok (Cs, q)
+      → several (kept_key f p.n p.k) (p.r + 1) q ≡ Ok (Ks, z) → drawn_set f p ≡ Ok (record { params = p; layers = Ls; constants = Cs; keys = Ks }, z)
   unfolding made
-  keys_last at q Ls Cs P Q h i t (Ok z) g (Ks, e, x, s) =
-      (made p Ls Cs Ks, keyed at q Ls Cs h i ∙ ap (λ (d : Drawn (List (List ℕ))). then d (λ Ks. Ok (made p Ls Cs Ks.0, Ks.1))) e, t Ks x, s)
-  keys_last at q Ls Cs P Q h i t (Err z) g (e, s) =
-      (keyed at q Ls Cs h i ∙ ap (λ (d : Drawn (List (List ℕ))). then d (λ Ks. Ok (made p Ls Cs Ks.0, Ks.1))) e, s)
+  keys_drawn at q z Ls Cs Ks h i k = keyed at q Ls Cs h i ∙ ap (λ (d : Drawn (List (List ℕ))). then d (λ Ks. Ok (made p Ls Cs Ks.0, Ks.1))) k
 
 pub sound : (p : Params) (Ls : List (List ℕ)) (Cs : List ℕ) (Ks : List (List ℕ)) → Lawful p → Layers p.n p.r Ls → Matrix p.r p.n Cs → Keys p.n p.k (p.r + 1) Ks
     → SoundSet (record { params = p; layers = Ls; constants = Cs; keys = Ks })

@@ -1,16 +1,20 @@
 use Rattle.std.proofs.Common.{◌≡◌, ℕ, ◌+◌, ◌-◌, ◌*◌, ◌<◌, ◌≤◌, List, [], ◌∷◌, ◌++◌, length, take, drop, Ok, sym, refl, ap, ◌∙◌, subst, zero-mul, arith, length-drop, length-take}
 use Rattle.std.proofs.lemmas.List.{take_all}
-use Rattle.std.proofs.lemmas.Result.{err_from_is_err_and, IfOk-from_err}
+use Rattle.std.proofs.lemmas.Result.{err_from_is_err_and}
 use Rattle.bits.specs.Gf2.{flat, width_of, words_of}
 use Rattle.bits.proofs.Vectors.{length_words_of, row_ends}
 use Rattle.cipher.specs.Sets.{Matrix}
 use Rattle.drawing.specs.Drawing.{matrix, row}
-use Rattle.drawing.proofs.Taking.{several_more, several_none, several_stop, took_stop}
+use Rattle.drawing.proofs.Taking.{several_more, several_none, several_stop, drew_stop}
 use Rattle.drawing.proofs.Pieces.{filled, flat_push, matrix_push, one_more}
-use Rattle.drawing.proofs.drawer.draw_matrix.Goals as goal
+use Rattle.drawing.proofs.matrices.Drawer.draw_matrix.Goals as goal
 
 pub loop-i-init : goal.loop-i-init
-loop-i-init g c = (omega (arith, zero-mul c.args.k), λ f s. ([], several_none (row f c.args.k) c.args.taken, record { size = refl; narrow = tt }, ap (λ (i : ℕ). take i c.args.out.now) (zero-mul c.width-w.result), s))
+loop-i-init g c = (
+  omega (arith, zero-mul c.args.k),
+  refl,
+  λ f s. ([], several_none (row f c.args.k) c.args.self.now.taken, record { size = refl; narrow = tt }, ap (λ (i : ℕ). take i c.args.out.now) (zero-mul c.width-w.result), s),
+)
 
 room : (count w v l i : ℕ) → w ≡ v → l ≡ count * v → i < count → i * w + w ≤ l
 room count w v l i e h t = omega (arith, row_ends i count w t, ap (λ (x : ℕ). count * x) e)
@@ -32,17 +36,13 @@ draw_row-requires g c =
       small = omega (arith, c.loop-i.invariant.0, row_ends c.loop-i.i c.args.count c.args.k c.loop-i-test.true);
     }
 
-pub returns-in_err-at : goal.returns-in_err-at
-returns-in_err-at g c =
+pub returns-in_err-draw_row-clause-drew : goal.returns-in_err-draw_row-clause-drew
+returns-in_err-draw_row-clause-drew g c f s =
     let p = err_from_is_err_and c.from_residual.result c.from_residual.ensures.1 in
-    record {
-      drew = λ f s.
-          let v = c.loop-i.invariant.1 f s in
-          let d = c.in_err-at.ensures.drew f v.4 in
-          took_stop f (matrix f c.args.count c.args.k c.args.taken) _ _ c.from_residual.result _ p.0 p.1 p.2
-          (several_stop (row f c.args.k) c.loop-i.i c.args.count c.args.taken c.loop-i.at v.0 _ c.loop-i-test.true v.1 d.0) d.1;
-      moved = IfOk-from_err c.from_residual.result _ c.from_residual.ensures.0;
-    }
+    let v = c.loop-i.invariant.2 f s in
+    let d = c.in_err-draw_row.ensures.drew f v.4 in
+    drew_stop f (matrix f c.args.count c.args.k c.args.self.now.taken) _ _ c.from_residual.result _ c.in_err-draw_row.field-0.0 p.0 p.1 p.2
+    (several_stop (row f c.args.k) c.loop-i.i c.args.count c.args.self.now.taken c.loop-i.self.taken v.0 _ c.loop-i-test.true v.1 d.0) d.1
 
 pub loop-i-preserved : goal.loop-i-preserved
 loop-i-preserved g c =
@@ -53,13 +53,14 @@ loop-i-preserved g c =
     let new : List ℕ = c.draw_row.new.out in
     let r : i * w + w ≤ length c.args.out.now = room c.args.count w (width_of k) (length c.args.out.now) i c.width-w.ensures.value c.requires.size c.loop-i-test.true in
     let part : length (take (i * w + w - i * w) (drop (i * w) out)) ≡ w = simp (length-take, length-drop) (omega arith) in (
-      omega (arith, c.in_ok-at.ensures.moved, c.loop-i.invariant.0, one_more i k),
+      omega (arith, c.in_ok-draw_row.ensures.moved, c.loop-i.invariant.0, one_more i k),
+      c.in_ok-draw_row.ensures.same ∙ c.loop-i.invariant.1,
       λ f s.
-          let v = c.loop-i.invariant.1 f s in
-          let d = c.in_ok-at.ensures.drew f v.4 in
+          let v = c.loop-i.invariant.2 f s in
+          let d = c.in_ok-draw_row.ensures.drew f v.4 in
           let is : new ≡ words_of w d.0 = d.2.1 ∙ ap (λ (n : ℕ). words_of n d.0) part in (
             v.0 ++ (d.0 ∷ []),
-            several_more (row f k) i c.args.taken c.loop-i.at c.in_ok-at.at v.0 d.0 v.1 d.1,
+            several_more (row f k) i c.args.self.now.taken c.loop-i.self.taken c.draw_row.new.self.taken v.0 d.0 v.1 d.1,
             matrix_push i k d.0 v.0 v.2 d.2.0,
             filled w i _ out new (flat w v.0) (omega arith) (ap length is ∙ length_words_of w d.0) v.3
                 ∙ ap (λ (xs : List ℕ). flat w v.0 ++ xs) is ∙ sym (flat_push w d.0 v.0),
@@ -75,14 +76,15 @@ returns g c =
     let room : length c.loop-i.out ≤ c.loop-i.i * w = omega (arith, c.requires.size, ap (λ (x : ℕ). c.args.count * x) c.width-w.ensures.value, ap (λ (x : ℕ). x * w) e) in
     record {
       drew = λ f s.
-          let v = c.loop-i.invariant.1 f s in (
+          let v = c.loop-i.invariant.2 f s in (
             v.0,
-            subst (λ (n : ℕ). matrix f n k c.args.taken ≡ Ok (v.0, c.loop-i.at)) e v.1,
+            subst (λ (n : ℕ). matrix f n k c.args.self.now.taken ≡ Ok (v.0, c.loop-i.self.taken)) e v.1,
             (
               subst (λ (n : ℕ). Matrix n k v.0) e v.2,
               sym (take_all (c.loop-i.i * w) c.loop-i.out room) ∙ v.3 ∙ ap (λ (n : ℕ). flat n v.0) c.width-w.ensures.value,
             ),
             v.4,
           );
-      moved = c.loop-i.invariant.0 ∙ ap (λ (n : ℕ). c.args.taken + n * k) e;
+      moved = c.loop-i.invariant.0 ∙ ap (λ (n : ℕ). c.args.self.now.taken + n * k) e;
+      same = c.loop-i.invariant.1;
     }

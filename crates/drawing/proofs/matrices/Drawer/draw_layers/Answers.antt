@@ -1,0 +1,87 @@
+use Rattle.std.proofs.Common.{◌≡◌, ℕ, ◌+◌, ◌*◌, ◌≤◌, List, [], ◌∷◌, ◌++◌, map, length, take, Ok, sym, refl, ap, ◌∙◌, subst, zero-mul, arith}
+use Rattle.std.proofs.lemmas.List.{length_push, map_push, take_all}
+use Rattle.std.proofs.lemmas.Result.{err_from_is_err_and}
+use Rattle.bits.specs.Gf2.{flat, inverse_of, width_of}
+use Rattle.bits.proofs.Vectors.{length_flat, row_ends}
+use Rattle.cipher.specs.Sets.{Matrix, joined}
+use Rattle.cipher.specs.Laws.{Invertible}
+use Rattle.drawing.specs.Drawing.{Layers, kept_layer, several}
+use Rattle.drawing.proofs.Taking.{drew_stop, several_more, several_none, several_stop}
+use Rattle.drawing.proofs.Pieces.{each_push, filled, flat_joined, length_matrix}
+use Rattle.drawing.proofs.matrices.Drawer.draw_layers.Goals as goal
+
+pub loop-i-init : goal.loop-i-init
+loop-i-init g c =
+    let z : 0 * (c.args.n * c.width.result) ≡ 0 = zero-mul (c.args.n * c.width.result) in (
+      omega arith,
+      refl,
+      λ f s. (
+        [],
+        several_none (kept_layer f c.args.n) c.args.self.now.taken,
+        record { size = refl; each = tt; invertible = tt },
+        ap (λ (i : ℕ). take i c.args.layers.now) z,
+        ap (λ (i : ℕ). take i c.args.inverses.now) z,
+        s,
+      ),
+    )
+
+pub returns-in_err-draw_kept-clause-drew : goal.returns-in_err-draw_kept-clause-drew
+returns-in_err-draw_kept-clause-drew g c f s =
+    let p = err_from_is_err_and c.from_residual.result c.from_residual.ensures.1 in
+    let v = c.loop-i.invariant.2 f s in
+    let d = c.in_err-draw_kept.ensures.drew f v.5 in
+    drew_stop f (several (kept_layer f c.args.n) c.args.count c.args.self.now.taken) _ _ c.from_residual.result _ c.in_err-draw_kept.field-0.0 p.0 p.1 p.2
+    (several_stop (kept_layer f c.args.n) c.loop-i.i c.args.count c.args.self.now.taken c.loop-i.self.taken v.0 _ c.loop-i-test.true v.1 d.0) d.1
+
+pub loop-i-preserved : goal.loop-i-preserved
+loop-i-preserved g c =
+    let n : ℕ = c.args.n in
+    let i : ℕ = c.loop-i.i in
+    let w : ℕ = c.width.result in
+    let v : ℕ = width_of n in
+    let ends : i * (n * w) + n * w ≤ c.args.count * (n * w) = row_ends i c.args.count (n * w) c.loop-i-test.true in
+    let whole : c.args.count * (n * w) ≡ c.args.count * (n * v) = ap (λ (x : ℕ). c.args.count * (n * x)) c.width.ensures.value in
+    let one : List ℕ = c.draw_kept.new.out in
+    let other : List ℕ = c.copy_from_slice.new.self in (
+      omega (arith, c.in_ok-draw_kept.ensures.moved, c.loop-i.invariant.0),
+      c.in_ok-draw_kept.ensures.same ∙ c.loop-i.invariant.1,
+      λ f s.
+          let u = c.loop-i.invariant.2 f s in
+          let d = c.in_ok-draw_kept.ensures.drew f u.5 in
+          let held : other ≡ flat v (inverse_of d.0) =
+          c.copy_from_slice.ensures.after ∙ ap (λ (x : ℕ). take (n * x) c.draw_kept.new.test.inverse) c.width.ensures.value
+          ∙ subst (λ (x : ℕ). take (x * width_of x) c.draw_kept.new.test.inverse ≡ flat (width_of x) (inverse_of d.0)) d.2.0.size d.2.2.1 in (
+            u.0 ++ (d.0 ∷ []),
+            several_more (kept_layer f n) i c.args.self.now.taken c.loop-i.self.taken c.draw_kept.new.self.taken u.0 d.0 u.1 d.1,
+            record {
+              size = length_push u.0 d.0 ∙ ap (λ (x : ℕ). x + 1) u.2.size;
+              each = each_push (Matrix n n) u.0 d.0 u.2.each d.2.0;
+              invertible = each_push Invertible u.0 d.0 u.2.invertible d.2.2.0;
+            },
+            filled (n * w) i _ c.loop-i.layers one (flat v (joined u.0)) (omega (arith, ends, whole, c.requires.size, c.loop-i.auto.layers))
+                (length_matrix n n v d.0 one d.2.0 d.2.1 ∙ ap (λ (x : ℕ). n * x) (sym c.width.ensures.value)) u.3
+                ∙ ap (λ (xs : List ℕ). flat v (joined u.0) ++ xs) d.2.1 ∙ sym (flat_joined v u.0 d.0),
+            filled (n * w) i _ c.loop-i.inverses other (flat v (joined (map inverse_of u.0))) (omega (arith, ends, whole, c.requires.room, c.loop-i.auto.inverses))
+                (ap length held ∙ length_flat v (inverse_of d.0) ∙ ap (λ (x : ℕ). x * v) (d.2.2.0.size ∙ d.2.0.size) ∙ ap (λ (x : ℕ). n * x) (sym c.width.ensures.value)) u.4
+                ∙ ap (λ (xs : List ℕ). flat v (joined (map inverse_of u.0)) ++ xs) held
+                ∙ sym (ap (λ (Ls : List (List ℕ)). flat v (joined Ls)) (map_push inverse_of u.0 d.0) ∙ flat_joined v (map inverse_of u.0) (inverse_of d.0)),
+            d.3,
+          ),
+    )
+
+pub returns-clause-drew : goal.returns-clause-drew
+returns-clause-drew g c f s =
+    let e : c.loop-i.i ≡ c.args.count = omega arith in
+    let n : ℕ = c.args.n in
+    let z : ℕ = n * c.width.result in
+    let all : c.loop-i.i * z ≡ c.args.count * (n * width_of n) = ap (λ (x : ℕ). x * z) e ∙ ap (λ (x : ℕ). c.args.count * (n * x)) c.width.ensures.value in
+    let v = c.loop-i.invariant.2 f s in (
+      v.0,
+      subst (λ (i : ℕ). several (kept_layer f n) i c.args.self.now.taken ≡ Ok (v.0, c.loop-i.self.taken)) e v.1,
+      (
+        subst (λ (i : ℕ). Layers n i v.0) e v.2,
+        sym (take_all (c.loop-i.i * z) c.loop-i.layers (omega (arith, all, c.requires.size, c.loop-i.auto.layers))) ∙ v.3,
+        sym (take_all (c.loop-i.i * z) c.loop-i.inverses (omega (arith, all, c.requires.room, c.loop-i.auto.inverses))) ∙ v.4,
+      ),
+      v.5,
+    )
