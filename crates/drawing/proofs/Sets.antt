@@ -1,7 +1,7 @@
 -- A whole set from its parts.
-use Rattle.std.proofs.Common.{◌≡◌, ℕ, ◌+◌, ◌<◌, ◌≤◌, Bool, ltb, List, [], ◌∷◌, ◌++◌, length, drop, replicate, Ok, Err, Result, sym, refl, ap, ◌∙◌, subst, ap₂, zero-add, arith}
+use Rattle.std.proofs.Common.{◌≡◌, ℕ, ◌+◌, ◌≤◌, Bool, ltb, List, [], ◌∷◌, ◌++◌, length, drop, replicate, Ok, Err, Result, sym, refl, ap, ◌∙◌, subst, ap₂, zero-add, arith}
 use Rattle.std.proofs.lemmas.List.{drop_at}
-use Rattle.std.proofs.lemmas.Bool.{le-ltb, lt-ltb}
+use Rattle.std.proofs.lemmas.Bool.{le-ltb}
 use Rattle.bits.specs.declared.refusal.Refusal.TheVariants.{KeyTooNarrow, TooFewWords}
 use Rattle.bits.specs.declared.refusal.Layer.TheVariants.{Draw, Set as SetLayer}
 use Rattle.bits.specs.declared.refusal.Fault.{Fault}
@@ -29,10 +29,6 @@ module _ (f : Stream) (p : Params) where
   opens : drawn_set f p ≡ seconds (several (kept_layer f p.n) p.r 0)
   unfolding seconds thirds made
   opens = refl
-
-  pub layers_stop : (e : Fault) → several (kept_layer f p.n) p.r 0 ≡ Err e → drawn_set f p ≡ Err e
-  unfolding seconds
-  layers_stop e h = opens ∙ ap seconds h
 
   after_layers : (at : ℕ) (Ls : List (List ℕ)) → several (kept_layer f p.n) p.r 0 ≡ Ok (Ls, at) → drawn_set f p ≡ thirds Ls (matrix f p.r p.n at)
   unfolding seconds
@@ -71,22 +67,6 @@ checks : Params → ℕ → Bool → Bool → Result Unit Fault → Result Unit 
 checks p room narrow short l = then l (λ _. first_of ((narrow, fault_at KeyTooNarrow Draw 0) ∷ (short, fault_at TooFewWords SetLayer (prepared_words_of p)) ∷ []))
 
 module _ (p : Params) (room : ℕ) where
-  pub ready_limits : (e : Fault) → limits p ≡ Err e → ready p room ≡ Err e
-  unfolding checks
-  ready_limits e h = ap (checks p room (ltb p.k p.n) (ltb room (prepared_words_of p))) h
-
-  pub ready_narrow : limits p ≡ Ok tt → p.k < p.n → ready p room ≡ Err (fault_at KeyTooNarrow Draw 0)
-  unfolding checks
-  ready_narrow h a =
-      ap (checks p room (ltb p.k p.n) (ltb room (prepared_words_of p))) h
-      ∙ ap (λ (b : Bool). checks p room b (ltb room (prepared_words_of p)) (Ok tt)) (lt-ltb p.k p.n a)
-
-  pub ready_short : limits p ≡ Ok tt → p.n ≤ p.k → room < prepared_words_of p → ready p room ≡ Err (fault_at TooFewWords SetLayer (prepared_words_of p))
-  unfolding checks
-  ready_short h a b =
-      ap (checks p room (ltb p.k p.n) (ltb room (prepared_words_of p))) h
-      ∙ ap₂ (λ (x y : Bool). checks p room x y (Ok tt)) (le-ltb p.k p.n a) (lt-ltb room (prepared_words_of p) b)
-
   pub ready_all : limits p ≡ Ok tt → p.n ≤ p.k → prepared_words_of p ≤ room → ready p room ≡ Ok tt
   unfolding checks
   ready_all h a b =
@@ -97,9 +77,6 @@ module _ (p : Params) (room : ℕ) where
 
 pub sees_self : (f : Stream) → Sees f f 0
 sees_self f i = ap f (sym (zero-add i))
-
-pub draws_refused : (p : Params) (f : Stream) (words : List ℕ) (ready : Result Unit Fault) (r : Result ℕ Fault) (e : Fault) → ready ≡ Err e → r ≡ Err e → Draws p f words ready r words f
-draws_refused p f words ready r e h q = subst (λ (x : Result Unit Fault). Draws p f words x r words f) (sym h) (q, refl, sees_self f)
 
 pub draws_done : (p : Params) (f : Stream) (words part : List ℕ) (used : ℕ) (ready : Result Unit Fault) (at : ℕ) (g : Stream) → used ≡ prepared_words_of p → ready ≡ Ok tt
     → Took f (drawn_set f p) (λ s. SoundSet s × (part ≡ prepared s)) (Ok at) g → Draws p f words ready (Ok at) (part ++ drop used words) g

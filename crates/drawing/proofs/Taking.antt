@@ -10,9 +10,6 @@ use Rattle.drawing.specs.Drawing.{Drawn, Took, bit_of, ending, first_kept, row, 
 
 -- ---- streams
 
-pub sees_start : (f g : Stream) (p : ℕ) → Sees f g p → Sees f g (p + 0)
-sees_start f g p s i = s i ∙ ap (λ (q : ℕ). f (q + i)) (sym (add-zero p))
-
 pub sees_more : (f g h : Stream) (p d q : ℕ) → Sees f g p → Sees g h d → p + d ≡ q → Sees f h q
 sees_more f g h p d q a b e i = b i ∙ a (d + i) ∙ ap f (omega (arith, e))
 
