@@ -3,7 +3,9 @@ use Rattle.std.proofs.Common.{◌≡◌, ℕ, ◌+◌, ◌*◌, ◌^◌, ◌<◌
 use borrow.Rule.Slice.PartMut.{put_mid}
 use Rattle.std.proofs.lemmas.List.{append_assoc, append-nil, length_push}
 use Rattle.std.proofs.lemmas.Slice.{take-put_mid}
-use Rattle.bits.specs.Gf2.{Below, flat, rows, words_of}
+use Rattle.bits.specs.Gf2.{Below, flat, rows, width_of, words_of}
+use Rattle.bits.specs.Matrices.{rows_in}
+use Rattle.bits.specs.declared.rows.Matrix.{Matrix as Lent}
 use Rattle.bits.proofs.Vectors.{length_flat, rows_flat}
 use Rattle.cipher.specs.Sets.{Each, Matrix, joined}
 use Rattle.cipher.proofs.Opens.{flat_append}
@@ -41,10 +43,12 @@ wider : (k m : ℕ) (xs : List ℕ) → k ≤ m → Below k xs → Below m xs
 wider k m [] h b = tt
 wider k m (x ∷ xs) h b = (omega (arith, b.0, pow_mono h), wider k m xs h b.1)
 
--- a matrix in memory is read back
-pub read_back : (n k v w : ℕ) (M ws : List ℕ) → Matrix n k M → k ≤ 64 * v → w ≡ v → ws ≡ flat v M → rows w n ws ≡ M
-read_back n k v w M ws m h e is =
-    ap₂ (λ (i : ℕ) (xs : List ℕ). rows i n xs) e is ∙ ap (λ (i : ℕ). rows v i (flat v M)) (sym m.size) ∙ rows_flat v M (wider k (64 * v) M h m.narrow)
+-- a matrix that was drawn is read back where it is lent
+pub drawn_rows : (n k w : ℕ) (M ws : List ℕ) (m : Lent) → m.words.now ≡ ws → (m.width ≡ w) × (m.height ≡ n) → k ≤ 64 * w → w ≡ width_of k → Matrix n k M → ws ≡ flat (width_of k) M
+    → rows_in m ≡ M
+drawn_rows n k w M ws m here shape h e drawn is =
+    ap₂ (λ (i j : ℕ). rows i j m.words.now) shape.0 (shape.1 ∙ sym drawn.size) ∙ ap (rows w (length M)) (here ∙ is ∙ ap (λ (i : ℕ). flat i M) (sym e))
+    ∙ rows_flat w M (wider k (64 * w) M h drawn.narrow)
 
 -- how long a matrix is in memory
 pub length_matrix : (n k v : ℕ) (M ws : List ℕ) → Matrix n k M → ws ≡ flat v M → length ws ≡ n * v

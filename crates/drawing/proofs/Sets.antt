@@ -1,6 +1,5 @@
 -- A whole set from its parts.
-use Rattle.std.proofs.Common.{◌≡◌, ℕ, ◌+◌, ◌≤◌, Bool, ltb, List, [], ◌∷◌, ◌++◌, length, drop, replicate, Ok, Err, Result, sym, refl, ap, ◌∙◌, subst, ap₂, zero-add, arith}
-use Rattle.std.proofs.lemmas.List.{drop_at}
+use Rattle.std.proofs.Common.{◌≡◌, ℕ, ◌+◌, ◌≤◌, Bool, ltb, List, [], ◌∷◌, ◌++◌, drop, Ok, Err, Result, sym, refl, ap, ◌∙◌, subst, ap₂, zero-add, arith}
 use Rattle.std.proofs.lemmas.Bool.{le-ltb}
 use Rattle.bits.specs.declared.refusal.Refusal.TheVariants.{KeyTooNarrow, TooFewWords}
 use Rattle.bits.specs.declared.refusal.Layer.TheVariants.{Draw, Set as SetLayer}
@@ -84,15 +83,6 @@ draws_done p f words part used ready at g u h (s, e, (o, is), sees) =
     subst (λ (x : Result Unit Fault). Draws p f words x (Ok at) (part ++ drop used words) g) (sym h)
     (subst (λ (d : Drawn Set). (Ok at ≡ counted d) × (part ++ drop used words ≡ words_after p words d) × Sees f g (stop (counted d)) × Sound d) (sym e)
     (refl, ap₂ (λ (xs : List ℕ) (i : ℕ). xs ++ drop i words) is u, sees, o))
-
-pub draws_stopped : (p : Params) (f : Stream) (words part zeros : List ℕ) (used n : ℕ) (ready : Result Unit Fault) (e : Fault) (g : Stream) → used ≡ prepared_words_of p → ready ≡ Ok tt
-    → length part ≡ used → n ≡ used → zeros ≡ replicate n 0
-    → (drawn_set f p ≡ Err e) × Sees f g e.place → Draws p f words ready (Err e) (zeros ++ drop used (part ++ drop used words)) g
-draws_stopped p f words part zeros used n ready e g u h l ln z (d, sees) =
-    let after : List ℕ = zeros ++ drop used (part ++ drop used words) in
-    subst (λ (x : Result Unit Fault). Draws p f words x (Err e) after g) (sym h)
-    (subst (λ (d : Drawn Set). (Err e ≡ counted d) × (after ≡ words_after p words d) × Sees f g (stop (counted d)) × Sound d) (sym d)
-    (refl, ap₂ ◌++◌ (z ∙ ap (λ (i : ℕ). replicate i 0) (ln ∙ u)) (drop_at part (drop used words) used l ∙ ap (λ (i : ℕ). drop i words) u), sees, tt))
 
 -- ---- what was drawn opens
 

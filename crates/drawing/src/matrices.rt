@@ -1,7 +1,7 @@
 // What is drawn from a source, piece by piece: bits, rows, matrices, and matrices that pass a test.
 ghost use Rattle.std.specs.Prelude.{◌≡◌, ℕ, ◌+◌, ◌*◌, ◌^◌, ◌<◌, ◌≤◌, length, IfOk};
 ghost use Rattle.bits.specs.Gf2.{flat, width_of, words_of};
-ghost use Rattle.cipher.specs.Sets.{Matrix};
+ghost use Rattle.cipher.specs.Sets.{Matrix as IsMatrix};
 ghost use Rattle.drawing.specs.Drawing.{Drew, TookBit, first_kept, matrix, row, tries};
 
 use crate::keep::Keep;
@@ -40,7 +40,7 @@ impl<'s, S: BitSource> Drawer<'s, S> {
         ensures moved { IfOk result (λ _. self.new.taken ≡ self.old.taken + count) }
     {
         out.fill(0);
-        // bit i has its place in word i / 64, so the index stays: over the words it would be a loop in a loop, and the last word may want fewer bits
+        // by the number of the bit: over the words it would be a loop in a loop, and the last word may want fewer bits
         for i in 0..count {
             out[i / 64] |= u64::from(self.draw_bit()?) << (i % 64);
         }
@@ -57,7 +57,7 @@ impl<'s, S: BitSource> Drawer<'s, S> {
         requires size { length out.old ≡ count * width_of k }
         requires small { self.old.taken + count * k < 2 ^ 64 }
         ensures same { self.new.source.ghost_name ≡ self.old.source.ghost_name }
-        ensures drew { Drew (λ f. matrix f count k) (λ M. Matrix count k M × (out.new ≡ flat (width_of k) M)) (S.meaning self.old.source.now) self.old.taken result (S.meaning self.new.source.now) self.new.taken }
+        ensures drew { Drew (λ f. matrix f count k) (λ M. IsMatrix count k M × (out.new ≡ flat (width_of k) M)) (S.meaning self.old.source.now) self.old.taken result (S.meaning self.new.source.now) self.new.taken }
         ensures moved { IfOk result (λ _. self.new.taken ≡ self.old.taken + count * k) }
     {
         let w = width(k);
@@ -83,7 +83,7 @@ impl<'s, S: BitSource> Drawer<'s, S> {
         requires size { length out.old ≡ n * width_of k }
         requires small { self.old.taken + 2 ^ 24 < 2 ^ 64 }
         ensures same { self.new.source.ghost_name ≡ self.old.source.ghost_name }
-        ensures drew { Drew (λ f. first_kept K.passes (matrix f n k) tries) (λ M. Matrix n k M × (out.new ≡ flat (width_of k) M) × K.holds test.new M) (S.meaning self.old.source.now) self.old.taken result (S.meaning self.new.source.now) self.new.taken }
+        ensures drew { Drew (λ f. first_kept K.passes (matrix f n k) tries) (λ M. IsMatrix n k M × (out.new ≡ flat (width_of k) M) × K.holds test.new M) (S.meaning self.old.source.now) self.old.taken result (S.meaning self.new.source.now) self.new.taken }
         ensures moved { IfOk result (λ _. self.new.taken ≤ self.old.taken + 2 ^ 24) }
     {
         let w = width(k);

@@ -33,6 +33,8 @@ impl<'s, S: BitSource> Drawer<'s, S> {
     {
         let size = n * width(n);
         let mut test = Inverting { inverse: [0; 1024] };
+        // by index, here and for keys: what is written through `chunks_exact_mut` is lost to the proof. One function for both would have to hand keys a place
+        // for inverses that they have not
         for i in 0..count {
             let start = i * size;
             self.draw_kept(&mut test, n, n, &mut layers[start..start + size])?;

@@ -1,8 +1,9 @@
-use Rattle.std.proofs.Common.{◌≡◌, Err, sym, ◌∙◌, subst, mul-le-mul, arith}
+use Rattle.std.proofs.Common.{◌≡◌, Err, sym, ap, ◌∙◌, subst, mul-le-mul, arith}
 use Rattle.std.proofs.lemmas.Result.{err_from_is_err_and}
 use Rattle.bits.specs.declared.refusal.Fault.{Fault}
 use Rattle.drawing.specs.Streams.{Sees}
 use Rattle.drawing.specs.Drawing.{first_kept, matrix, tries}
+use Rattle.drawing.proofs.Pieces.{drawn_rows}
 use Rattle.drawing.proofs.Taking.{drew_stop, try_no, try_none, try_stop, try_yes}
 use Rattle.drawing.proofs.matrices.Drawer.draw_kept.Goals as goal
 
@@ -19,11 +20,11 @@ pub returns-then-keeps-clause-drew : goal.returns-then-keeps-clause-drew
 returns-then-keeps-clause-drew g c f s =
     let v = c.loop-draw.invariant.2 f s in
     let d = c.in_ok-draw_matrix.ensures.drew f v.1 in
-    let j = c.keeps.ensures d.0 d.2.0 d.2.1 in (
+    let is = drawn_rows c.args.n c.args.k c.width-w.result d.0 c.draw_matrix.new.out c.new.result c.new.ensures.words c.new.ensures.shape c.width-w.ensures.covers.0 c.width-w.ensures.value d.2.0 d.2.1 in (
       d.0,
       try_yes g.K.Keep.passes (matrix f c.args.n c.args.k) c.loop-draw._draw c.loop-draw.self.taken c.draw_matrix.new.self.taken d.0 _ c.loop-draw-test.true v.0 d.1
-          (sym j.0 ∙ c.if-keeps.true),
-      (d.2.0, d.2.1, j.1 c.if-keeps.true),
+          (ap g.K.Keep.passes (sym is) ∙ sym c.keeps.ensures.passes ∙ c.if-keeps.true),
+      (d.2.0, d.2.1, subst (g.K.Keep.holds c.keeps.new.self) is (c.keeps.ensures.holds c.if-keeps.true)),
       d.3,
     )
 
@@ -33,9 +34,10 @@ loop-draw-preserved g c = (
   c.in_ok-draw_matrix.ensures.same ∙ c.loop-draw.invariant.1,
   λ f s.
       let v = c.loop-draw.invariant.2 f s in
-      let d = c.in_ok-draw_matrix.ensures.drew f v.1 in (
+      let d = c.in_ok-draw_matrix.ensures.drew f v.1 in
+      let is = drawn_rows c.args.n c.args.k c.width-w.result d.0 c.draw_matrix.new.out c.new.result c.new.ensures.words c.new.ensures.shape c.width-w.ensures.covers.0 c.width-w.ensures.value d.2.0 d.2.1 in (
         try_no g.K.Keep.passes (matrix f c.args.n c.args.k) c.loop-draw._draw c.loop-draw.self.taken c.draw_matrix.new.self.taken d.0 _ c.loop-draw-test.true v.0 d.1
-            (sym (c.keeps.ensures d.0 d.2.0 d.2.1).0 ∙ c.if-keeps.false),
+            (ap g.K.Keep.passes (sym is) ∙ sym c.keeps.ensures.passes ∙ c.if-keeps.false),
         d.3,
       ),
 )

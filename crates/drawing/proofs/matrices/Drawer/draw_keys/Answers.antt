@@ -1,10 +1,10 @@
-use Rattle.std.proofs.Common.{◌≡◌, ℕ, ◌+◌, ◌*◌, ◌<◌, ◌≤◌, List, [], ◌∷◌, ◌++◌, length, take, Ok, sym, refl, ap, ◌∙◌, subst, zero-mul, arith}
-use Rattle.std.proofs.lemmas.List.{length_push, take_all}
+use Rattle.std.proofs.Common.{◌≡◌, ℕ, ◌+◌, ◌*◌, ◌<◌, ◌≤◌, List, [], ◌∷◌, ◌++◌, length, take, sym, refl, ap, ◌∙◌, zero-mul, arith}
+use Rattle.std.proofs.lemmas.List.{length_push}
 use Rattle.std.proofs.lemmas.Result.{err_from_is_err_and}
 use Rattle.bits.specs.Gf2.{Independent, flat, width_of}
 use Rattle.bits.proofs.Vectors.{row_ends}
 use Rattle.cipher.specs.Sets.{Matrix, joined}
-use Rattle.drawing.specs.Drawing.{Keys, kept_key, several}
+use Rattle.drawing.specs.Drawing.{kept_key, several}
 use Rattle.drawing.proofs.Taking.{several_more, several_none, several_stop, drew_stop}
 use Rattle.drawing.proofs.Pieces.{each_push, filled, flat_joined, length_matrix}
 use Rattle.drawing.proofs.matrices.Drawer.draw_keys.Goals as goal
@@ -24,9 +24,6 @@ loop-i-init g c = (
     s,
   ),
 )
-
-pub slice_bounds-draw_kept-end : goal.slice_bounds-draw_kept-end
-slice_bounds-draw_kept-end g c = let r = room c.args.count c.args.n c.width.result (width_of c.args.k) (length c.args.out.now) c.loop-i.i c.width.ensures.value c.requires.size c.loop-i-test.true in omega arith
 
 pub returns-in_err-draw_kept-clause-drew : goal.returns-in_err-draw_kept-clause-drew
 returns-in_err-draw_kept-clause-drew g c f s =
@@ -62,20 +59,4 @@ loop-i-preserved g c =
                 ∙ ap (λ (xs : List ℕ). flat v (joined u.0) ++ xs) d.2.1 ∙ sym (flat_joined v u.0 d.0),
             d.3,
           ),
-    )
-
-pub returns-clause-drew : goal.returns-clause-drew
-returns-clause-drew g c f s =
-    let e : c.loop-i.i ≡ c.args.count = omega arith in
-    let z : ℕ = c.args.n * c.width.result in
-    let k : ℕ = c.args.k in
-    let room : length c.loop-i.out ≤ c.loop-i.i * z = omega (arith, c.requires.size, ap (λ (x : ℕ). c.args.count * (c.args.n * x)) c.width.ensures.value, ap (λ (x : ℕ). x * z) e) in
-    let v = c.loop-i.invariant.2 f s in (
-      v.0,
-      subst (λ (i : ℕ). several (kept_key f c.args.n k) i c.args.self.now.taken ≡ Ok (v.0, c.loop-i.self.taken)) e v.1,
-      (
-        subst (λ (i : ℕ). Keys c.args.n k i v.0) e v.2,
-        sym (take_all (c.loop-i.i * z) c.loop-i.out room) ∙ v.3,
-      ),
-      v.4,
     )

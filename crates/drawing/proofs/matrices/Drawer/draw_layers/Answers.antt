@@ -1,11 +1,11 @@
-use Rattle.std.proofs.Common.{◌≡◌, ℕ, ◌+◌, ◌*◌, ◌≤◌, List, [], ◌∷◌, ◌++◌, map, length, take, Ok, sym, refl, ap, ◌∙◌, subst, zero-mul, arith}
-use Rattle.std.proofs.lemmas.List.{length_push, map_push, take_all}
+use Rattle.std.proofs.Common.{◌≡◌, ℕ, ◌+◌, ◌*◌, ◌≤◌, List, [], ◌∷◌, ◌++◌, map, length, take, sym, refl, ap, ◌∙◌, subst, zero-mul, arith}
+use Rattle.std.proofs.lemmas.List.{length_push, map_push}
 use Rattle.std.proofs.lemmas.Result.{err_from_is_err_and}
 use Rattle.bits.specs.Gf2.{flat, inverse_of, width_of}
 use Rattle.bits.proofs.Vectors.{length_flat, row_ends}
 use Rattle.cipher.specs.Sets.{Matrix, joined}
 use Rattle.cipher.specs.Laws.{Invertible}
-use Rattle.drawing.specs.Drawing.{Layers, kept_layer, several}
+use Rattle.drawing.specs.Drawing.{kept_layer, several}
 use Rattle.drawing.proofs.Taking.{drew_stop, several_more, several_none, several_stop}
 use Rattle.drawing.proofs.Pieces.{each_push, filled, flat_joined, length_matrix}
 use Rattle.drawing.proofs.matrices.Drawer.draw_layers.Goals as goal
@@ -67,21 +67,4 @@ loop-i-preserved g c =
                 ∙ sym (ap (λ (Ls : List (List ℕ)). flat v (joined Ls)) (map_push inverse_of u.0 d.0) ∙ flat_joined v (map inverse_of u.0) (inverse_of d.0)),
             d.3,
           ),
-    )
-
-pub returns-clause-drew : goal.returns-clause-drew
-returns-clause-drew g c f s =
-    let e : c.loop-i.i ≡ c.args.count = omega arith in
-    let n : ℕ = c.args.n in
-    let z : ℕ = n * c.width.result in
-    let all : c.loop-i.i * z ≡ c.args.count * (n * width_of n) = ap (λ (x : ℕ). x * z) e ∙ ap (λ (x : ℕ). c.args.count * (n * x)) c.width.ensures.value in
-    let v = c.loop-i.invariant.2 f s in (
-      v.0,
-      subst (λ (i : ℕ). several (kept_layer f n) i c.args.self.now.taken ≡ Ok (v.0, c.loop-i.self.taken)) e v.1,
-      (
-        subst (λ (i : ℕ). Layers n i v.0) e v.2,
-        sym (take_all (c.loop-i.i * z) c.loop-i.layers (omega (arith, all, c.requires.size, c.loop-i.auto.layers))) ∙ v.3,
-        sym (take_all (c.loop-i.i * z) c.loop-i.inverses (omega (arith, all, c.requires.room, c.loop-i.auto.inverses))) ∙ v.4,
-      ),
-      v.5,
     )

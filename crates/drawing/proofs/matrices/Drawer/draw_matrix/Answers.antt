@@ -1,9 +1,7 @@
-use Rattle.std.proofs.Common.{◌≡◌, ℕ, ◌+◌, ◌-◌, ◌*◌, ◌<◌, ◌≤◌, List, [], ◌∷◌, ◌++◌, length, take, drop, Ok, sym, refl, ap, ◌∙◌, subst, zero-mul, arith, length-drop, length-take}
-use Rattle.std.proofs.lemmas.List.{take_all}
+use Rattle.std.proofs.Common.{◌≡◌, ℕ, ◌+◌, ◌-◌, ◌*◌, ◌<◌, ◌≤◌, List, [], ◌∷◌, ◌++◌, length, take, drop, sym, refl, ap, ◌∙◌, zero-mul, arith, length-drop, length-take}
 use Rattle.std.proofs.lemmas.Result.{err_from_is_err_and}
 use Rattle.bits.specs.Gf2.{flat, width_of, words_of}
 use Rattle.bits.proofs.Vectors.{length_words_of, row_ends}
-use Rattle.cipher.specs.Sets.{Matrix}
 use Rattle.drawing.specs.Drawing.{matrix, row}
 use Rattle.drawing.proofs.Taking.{several_more, several_none, several_stop, drew_stop}
 use Rattle.drawing.proofs.Pieces.{filled, flat_push, matrix_push, one_more}
@@ -18,23 +16,6 @@ loop-i-init g c = (
 
 room : (count w v l i : ℕ) → w ≡ v → l ≡ count * v → i < count → i * w + w ≤ l
 room count w v l i e h t = omega (arith, row_ends i count w t, ap (λ (x : ℕ). count * x) e)
-
-pub overflow_add-start : goal.overflow_add-start
-overflow_add-start g c = let r = room c.args.count c.width-w.result (width_of c.args.k) (length c.args.out.now) c.loop-i.i c.width-w.ensures.value c.requires.size c.loop-i-test.true in omega arith
-
-pub offset_bounds-out-start : goal.offset_bounds-out-start
-offset_bounds-out-start g c = let r = room c.args.count c.width-w.result (width_of c.args.k) (length c.args.out.now) c.loop-i.i c.width-w.ensures.value c.requires.size c.loop-i-test.true in omega arith
-
-pub slice_bounds-draw_row-end : goal.slice_bounds-draw_row-end
-slice_bounds-draw_row-end g c = let r = room c.args.count c.width-w.result (width_of c.args.k) (length c.args.out.now) c.loop-i.i c.width-w.ensures.value c.requires.size c.loop-i-test.true in omega arith
-
-pub draw_row-requires : goal.draw_row-requires
-draw_row-requires g c =
-    let r = room c.args.count c.width-w.result (width_of c.args.k) (length c.args.out.now) c.loop-i.i c.width-w.ensures.value c.requires.size c.loop-i-test.true in
-    record {
-      room = simp (length-take, length-drop) (omega (arith, c.width-w.ensures.covers.0));
-      small = omega (arith, c.loop-i.invariant.0, row_ends c.loop-i.i c.args.count c.args.k c.loop-i-test.true);
-    }
 
 pub returns-in_err-draw_row-clause-drew : goal.returns-in_err-draw_row-clause-drew
 returns-in_err-draw_row-clause-drew g c f s =
@@ -67,24 +48,3 @@ loop-i-preserved g c =
             d.3,
           ),
     )
-
-pub returns : goal.returns
-returns g c =
-    let e : c.loop-i.i ≡ c.args.count = omega arith in
-    let w : ℕ = c.width-w.result in
-    let k : ℕ = c.args.k in
-    let room : length c.loop-i.out ≤ c.loop-i.i * w = omega (arith, c.requires.size, ap (λ (x : ℕ). c.args.count * x) c.width-w.ensures.value, ap (λ (x : ℕ). x * w) e) in
-    record {
-      drew = λ f s.
-          let v = c.loop-i.invariant.2 f s in (
-            v.0,
-            subst (λ (n : ℕ). matrix f n k c.args.self.now.taken ≡ Ok (v.0, c.loop-i.self.taken)) e v.1,
-            (
-              subst (λ (n : ℕ). Matrix n k v.0) e v.2,
-              sym (take_all (c.loop-i.i * w) c.loop-i.out room) ∙ v.3 ∙ ap (λ (n : ℕ). flat n v.0) c.width-w.ensures.value,
-            ),
-            v.4,
-          );
-      moved = c.loop-i.invariant.0 ∙ ap (λ (n : ℕ). c.args.self.now.taken + n * k) e;
-      same = c.loop-i.invariant.1;
-    }
