@@ -1,5 +1,5 @@
 -- Pieces written one after another.
-use Rattle.std.proofs.Common.{◌≡◌, ℕ, ◌+◌, ◌*◌, ◌^◌, ◌<◌, ◌≤◌, List, [], ◌∷◌, ◌++◌, length, take, sym, ap, ◌∙◌, ap₂, suc-mul, add-one, arith, pow_mono}
+use Rattle.std.proofs.Common.{◌≡◌, ℕ, ◌+◌, ◌*◌, ◌^◌, ◌<◌, ◌≤◌, List, [], ◌∷◌, ◌++◌, length, take, sym, refl, ap, ◌∙◌, ap₂, suc-mul, add-one, arith, pow_mono}
 use borrow.Rule.Slice.PartMut.{put_mid}
 use Rattle.std.proofs.lemmas.List.{append_assoc, append-nil, length_push}
 use Rattle.std.proofs.lemmas.Slice.{take-put_mid}
@@ -9,6 +9,7 @@ use Rattle.bits.specs.declared.rows.Matrix.{Matrix as Lent}
 use Rattle.bits.proofs.Vectors.{length_flat, rows_flat}
 use Rattle.cipher.specs.Sets.{Each, Matrix, joined}
 use Rattle.cipher.proofs.Opens.{flat_append}
+use Rattle.drawing.specs.Drawing.{Matrices}
 
 pub one_more : (i s : ℕ) → (i + 1) * s ≡ i * s + s
 one_more i s = ap (λ (k : ℕ). k * s) (add-one i) ∙ suc-mul i s
@@ -25,10 +26,10 @@ joined_push : (xs : List (List ℕ)) (x : List ℕ) → joined (xs ++ (x ∷ [])
 joined_push [] x = append-nil x
 joined_push (y ∷ xs) x = ap (λ (zs : List ℕ). y ++ zs) (joined_push xs x) ∙ sym (append_assoc y (joined xs) x)
 
-pub flat_joined : (w : ℕ) (xs : List (List ℕ)) (x : List ℕ) → flat w (joined (xs ++ (x ∷ []))) ≡ flat w (joined xs) ++ flat w x
+flat_joined : (w : ℕ) (xs : List (List ℕ)) (x : List ℕ) → flat w (joined (xs ++ (x ∷ []))) ≡ flat w (joined xs) ++ flat w x
 flat_joined w xs x = ap (flat w) (joined_push xs x) ∙ flat_append w (joined xs) x
 
-pub each_push : {A : Type 0} (P : A → Type 0) (xs : List A) (x : A) → Each P xs → P x → Each P (xs ++ (x ∷ []))
+each_push : {A : Type 0} (P : A → Type 0) (xs : List A) (x : A) → Each P xs → P x → Each P (xs ++ (x ∷ []))
 each_push P [] x e p = (p, tt)
 each_push P (y ∷ xs) x e p = (e.0, each_push P xs x e.1 p)
 
@@ -53,3 +54,18 @@ drawn_rows n k w M ws m here shape h e drawn is =
 -- how long a matrix is in memory
 pub length_matrix : (n k v : ℕ) (M ws : List ℕ) → Matrix n k M → ws ≡ flat v M → length ws ≡ n * v
 length_matrix n k v M ws m is = ap length is ∙ length_flat v M ∙ ap (λ (i : ℕ). i * v) m.size
+
+-- ---- one matrix more
+
+pub no_matrices : (P : List ℕ → Type 0) (n k : ℕ) → Matrices P n k 0 []
+no_matrices P n k = record { size = refl; each = tt; have = tt }
+
+pub matrices_push : (P : List ℕ → Type 0) (n k count : ℕ) (Ms : List (List ℕ)) (M : List ℕ) → Matrices P n k count Ms → Matrix n k M → P M → Matrices P n k (count + 1) (Ms ++ (M ∷ []))
+matrices_push P n k count Ms M h m p =
+    record { size = length_push Ms M ∙ ap (λ (i : ℕ). i + 1) h.size; each = each_push (Matrix n k) Ms M h.each m; have = each_push P Ms M h.have p }
+
+-- matrix i, of s words, is written after those before it
+pub written : (s i k w : ℕ) (out new : List ℕ) (Ms : List (List ℕ)) (M : List ℕ) → i * s + s ≤ length out → length new ≡ s → take (i * s) out ≡ flat w (joined Ms) → new ≡ flat w M
+    → take ((i + 1) * s) (put_mid (i * s) k out new) ≡ flat w (joined (Ms ++ (M ∷ [])))
+written s i k w out new Ms M h l e is =
+    filled s i k out new (flat w (joined Ms)) h l e ∙ ap (λ (xs : List ℕ). flat w (joined Ms) ++ xs) is ∙ sym (flat_joined w Ms M)

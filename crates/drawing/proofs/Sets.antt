@@ -56,8 +56,8 @@ pub sound : (p : Params) (Ls : List (List ℕ)) (Cs : List ℕ) (Ks : List (List
 sound p Ls Cs Ks l a b c =
     record {
       lawful = record { limits = l; rounds = a.size; layers = a.each; constants = b; key_rounds = c.size; keys = c.each };
-      invertible = a.invertible;
-      independent = c.independent;
+      invertible = a.have;
+      independent = c.have;
     }
 
 -- ---- the checks before a bit is taken

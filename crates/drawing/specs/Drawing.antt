@@ -150,14 +150,16 @@ ending (Err e) to = Err e
 abbrev pub Drew : {A : Type 0} → (Stream → ℕ → Drawn A) → (A → Type 0) → Stream → ℕ → Result Unit Fault → Stream → ℕ → Type 0
 Drew step P g at r h to = (f : Stream) → Sees f g at → Took f (step f at) P (ending r to) h
 
+-- so many matrices of n rows of k bits, each with a property
+pub record Matrices (P : List ℕ → Type 0) (n k count : ℕ) (Ms : List (List ℕ)) : Type 0 where
+  pub size : length Ms ≡ count
+  pub each : Each (Matrix n k) Ms
+  pub have : Each P Ms
+
 -- so many layers of n rows, each with an inverse
-pub record Layers (n count : ℕ) (Ls : List (List ℕ)) : Type 0 where
-  pub size : length Ls ≡ count
-  pub each : Each (Matrix n n) Ls
-  pub invertible : Each Invertible Ls
+abbrev pub Layers : ℕ → ℕ → List (List ℕ) → Type 0
+Layers n = Matrices Invertible n n
 
 -- so many key matrices of n rows of k bits, each with independent rows
-pub record Keys (n k count : ℕ) (Ks : List (List ℕ)) : Type 0 where
-  pub size : length Ks ≡ count
-  pub each : Each (Matrix n k) Ks
-  pub independent : Each Independent Ks
+abbrev pub Keys : ℕ → ℕ → ℕ → List (List ℕ) → Type 0
+Keys = Matrices Independent

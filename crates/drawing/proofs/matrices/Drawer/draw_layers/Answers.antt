@@ -1,13 +1,13 @@
 use Rattle.std.proofs.Common.{◌≡◌, ℕ, ◌+◌, ◌*◌, ◌≤◌, List, [], ◌∷◌, ◌++◌, map, length, take, sym, refl, ap, ◌∙◌, subst, zero-mul, arith}
-use Rattle.std.proofs.lemmas.List.{length_push, map_push}
+use Rattle.std.proofs.lemmas.List.{map_push}
 use Rattle.std.proofs.lemmas.Result.{err_from_is_err_and}
 use Rattle.bits.specs.Gf2.{flat, inverse_of, width_of}
 use Rattle.bits.proofs.Vectors.{length_flat, row_ends}
-use Rattle.cipher.specs.Sets.{Matrix, joined}
+use Rattle.cipher.specs.Sets.{joined}
 use Rattle.cipher.specs.Laws.{Invertible}
 use Rattle.drawing.specs.Drawing.{kept_layer, several}
 use Rattle.drawing.proofs.Taking.{drew_stop, several_more, several_none, several_stop}
-use Rattle.drawing.proofs.Pieces.{each_push, filled, flat_joined, length_matrix}
+use Rattle.drawing.proofs.Pieces.{length_matrix, matrices_push, no_matrices, written}
 use Rattle.drawing.proofs.matrices.Drawer.draw_layers.Goals as goal
 
 pub loop-i-init : goal.loop-i-init
@@ -18,7 +18,7 @@ loop-i-init g c =
       λ f s. (
         [],
         several_none (kept_layer f c.args.n) c.args.self.now.taken,
-        record { size = refl; each = tt; invertible = tt },
+        no_matrices Invertible c.args.n c.args.n,
         ap (λ (i : ℕ). take i c.args.layers.now) z,
         ap (λ (i : ℕ). take i c.args.inverses.now) z,
         s,
@@ -53,18 +53,12 @@ loop-i-preserved g c =
           ∙ subst (λ (x : ℕ). take (x * width_of x) c.draw_kept.new.test.inverse ≡ flat (width_of x) (inverse_of d.0)) d.2.0.size d.2.2.1 in (
             u.0 ++ (d.0 ∷ []),
             several_more (kept_layer f n) i c.args.self.now.taken c.loop-i.self.taken c.draw_kept.new.self.taken u.0 d.0 u.1 d.1,
-            record {
-              size = length_push u.0 d.0 ∙ ap (λ (x : ℕ). x + 1) u.2.size;
-              each = each_push (Matrix n n) u.0 d.0 u.2.each d.2.0;
-              invertible = each_push Invertible u.0 d.0 u.2.invertible d.2.2.0;
-            },
-            filled (n * w) i _ c.loop-i.layers one (flat v (joined u.0)) (omega (arith, ends, whole, c.requires.size, c.loop-i.auto.layers))
-                (length_matrix n n v d.0 one d.2.0 d.2.1 ∙ ap (λ (x : ℕ). n * x) (sym c.width.ensures.value)) u.3
-                ∙ ap (λ (xs : List ℕ). flat v (joined u.0) ++ xs) d.2.1 ∙ sym (flat_joined v u.0 d.0),
-            filled (n * w) i _ c.loop-i.inverses other (flat v (joined (map inverse_of u.0))) (omega (arith, ends, whole, c.requires.room, c.loop-i.auto.inverses))
-                (ap length held ∙ length_flat v (inverse_of d.0) ∙ ap (λ (x : ℕ). x * v) (d.2.2.0.size ∙ d.2.0.size) ∙ ap (λ (x : ℕ). n * x) (sym c.width.ensures.value)) u.4
-                ∙ ap (λ (xs : List ℕ). flat v (joined (map inverse_of u.0)) ++ xs) held
-                ∙ sym (ap (λ (Ls : List (List ℕ)). flat v (joined Ls)) (map_push inverse_of u.0 d.0) ∙ flat_joined v (map inverse_of u.0) (inverse_of d.0)),
+            matrices_push Invertible n n i u.0 d.0 u.2 d.2.0 d.2.2.0,
+            written (n * w) i _ v c.loop-i.layers one u.0 d.0 (omega (arith, ends, whole, c.requires.size, c.loop-i.auto.layers))
+                (length_matrix n n v d.0 one d.2.0 d.2.1 ∙ ap (λ (x : ℕ). n * x) (sym c.width.ensures.value)) u.3 d.2.1,
+            written (n * w) i _ v c.loop-i.inverses other (map inverse_of u.0) (inverse_of d.0) (omega (arith, ends, whole, c.requires.room, c.loop-i.auto.inverses))
+                (ap length held ∙ length_flat v (inverse_of d.0) ∙ ap (λ (x : ℕ). x * v) (d.2.2.0.size ∙ d.2.0.size) ∙ ap (λ (x : ℕ). n * x) (sym c.width.ensures.value)) u.4 held
+                ∙ sym (ap (λ (Ls : List (List ℕ)). flat v (joined Ls)) (map_push inverse_of u.0 d.0)),
             d.3,
           ),
     )
