@@ -5,22 +5,16 @@
 mod batching;
 mod maker;
 
-use anyhow::anyhow;
+use anyhow::Context;
 use batching::time_batches;
-use bits::refusal::Fault;
 use cipher::instance::Instance;
 use cipher::params::Params;
 use drawing::drawer::draw;
 use drawing::grain::GrainSource;
 use files::reading::read;
 use maker::make_file;
+use std::env;
 use std::time::Instant;
-use std::{env, io};
-
-fn print_refusal(rt: &HostRuntime, fault: Fault) -> io::Result<()> {
-    let number = fault.refusal.number();
-    println!(rt; "refused: {} at {}", number, fault.place)
-}
 
 // Microseconds for `count` blocks, each the one before it encrypted.
 fn time_blocks(
@@ -33,9 +27,8 @@ fn time_blocks(
     let mut work = [0u64; 8];
     let start = Instant::now(rt)?;
     for _ in 0..count {
-        if held.encrypt(key, block, &mut work).is_err() {
-            return Err(anyhow!("a block was refused"));
-        }
+        held.encrypt(key, block, &mut work)
+            .context("a block was refused")?;
     }
     Ok(start.elapsed(rt)?.as_micros())
 }
@@ -72,7 +65,7 @@ fn time_opened(
     let mut held = Instance::empty();
     let start = Instant::now(rt)?;
     if let Err(fault) = held.open(params, words) {
-        print_refusal(rt, fault)?;
+        println!(rt; "{fault}")?;
         return Ok(());
     }
     let spent = start.elapsed(rt)?.as_micros();
@@ -96,7 +89,7 @@ fn time_set(rt: &HostRuntime, params: Params, batches: u32) -> anyhow::Result<()
             println!(rt; "  read in {spent} us")?;
             time_opened(rt, p, &words, batches)?;
         }
-        Err(fault) => print_refusal(rt, fault)?,
+        Err(fault) => println!(rt; "{fault}")?,
     }
     Ok(())
 }
@@ -111,7 +104,7 @@ fn time_drawn(rt: &HostRuntime, params: Params) -> anyhow::Result<()> {
             let spent = start.elapsed(rt)?.as_micros();
             println!(rt; "  drawn in {spent} us, from {taken} bits")?;
         }
-        Err(fault) => print_refusal(rt, fault)?,
+        Err(fault) => println!(rt; "{fault}")?,
     }
     Ok(())
 }

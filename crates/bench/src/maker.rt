@@ -20,93 +20,105 @@ impl Noise {
     }
 }
 
-// Byte `c` of a row of `bits` bits whose bits below `from` are 0 and whose bit `from` is 1.
-fn row_byte(noise: &mut Noise, c: usize, from: usize, bits: usize) -> u8 {
-    let mut byte = 0u8;
-    let x = noise.next();
-    for t in 0..8usize {
-        let j = c.saturating_mul(8).saturating_add(t);
-        let on = j == from || (j > from && (x >> t) % 2 == 1);
-        if on && j < bits {
-            byte |= 1u8 << t;
+// Which matrices or vectors the rows of a record are.
+#[derive(Clone, Copy)]
+enum Kind {
+    Layer,
+    Constant,
+    Key,
+}
+
+impl Kind {
+    fn mark(self) -> &'static [u8] {
+        match self {
+            Kind::Layer => b"LM",
+            Kind::Constant => b"RC",
+            Kind::Key => b"KM",
         }
     }
-    byte
 }
 
-// The byte that stands so far before the end, 0 where there is none.
-fn before(file: &[u8], back: usize) -> u8 {
-    if 0 < back && back <= file.len() {
-        file[file.len() - back]
-    } else {
-        0
+// A file that is being written, and what its bits come from.
+#[derive(Drop)]
+struct Maker {
+    heap: Global,
+    file: Vec<u8>,
+    noise: Noise,
+}
+
+impl Maker {
+    // Byte `c` of a row of `bits` bits whose bits below `from` are 0 and whose bit `from` is 1.
+    fn row_byte(&mut self, c: usize, from: usize, bits: usize) -> u8 {
+        let x = self.noise.next();
+        let start = c.saturating_mul(8);
+        (0..8usize)
+            .filter(|t| {
+                let j = start.saturating_add(*t);
+                j < bits && (j == from || (j > from && (x >> *t) % 2 == 1))
+            })
+            .fold(0, |byte, t| byte | 1u8 << t)
     }
-}
 
-// One row more; the row before it is added where `sum`.
-fn push_row(
-    file: &mut Vec<u8>,
-    noise: &mut Noise,
-    from: usize,
-    bits: usize,
-    sum: bool,
-) -> anyhow::Result<()> {
-    let size = bits.div_ceil(8);
-    for c in 0..size {
-        let byte = row_byte(noise, c, from, bits);
-        let above = if sum { before(file, size) } else { 0 };
-        file.push(byte ^ above)?;
+    // Adds such a row to what stands in `row`.
+    fn add_row(&mut self, row: &mut [u8], from: usize, bits: usize) {
+        for (c, byte) in row.iter_mut().enumerate() {
+            *byte ^= self.row_byte(c, from, bits);
+        }
     }
-    Ok(())
-}
 
-// A record of `rows` rows; those of a layer where `layer`.
-fn push_record(
-    file: &mut Vec<u8>,
-    noise: &mut Noise,
-    mark: [u8; 2],
-    number: u8,
-    rows: usize,
-    bits: usize,
-    layer: bool,
-) -> anyhow::Result<()> {
-    file.push(mark[0])?;
-    file.push(mark[1])?;
-    file.push(number)?;
-    for i in 0..rows {
-        let from = if layer { i } else { 0 };
-        push_row(file, noise, from, bits, layer && i > 0)?;
+    // A record. Row `i` of a layer is the one before it and a row that begins at bit `i`.
+    fn push_record(
+        &mut self,
+        kind: Kind,
+        number: u8,
+        rows: usize,
+        bits: usize,
+    ) -> anyhow::Result<()> {
+        self.file.extend_from_slice(kind.mark())?;
+        self.file.push(number)?;
+        let mut row = vec![in self.heap; 0u8; bits.div_ceil(8)]?;
+        for i in 0..rows {
+            if let Kind::Layer = kind {
+                self.add_row(&mut row, i, bits);
+            } else {
+                row.fill(0);
+                self.add_row(&mut row, 0, bits);
+            }
+            self.file.extend_from_slice(&row)?;
+        }
+        Ok(())
     }
-    Ok(())
-}
 
-fn push_header(file: &mut Vec<u8>, p: Params) -> anyhow::Result<()> {
-    let n = p.n.to_be_bytes();
-    let k = p.k.to_be_bytes();
-    file.extend_from_slice(&[b'P', b'R', n[0], n[1], k[0], k[1]])?;
-    file.push((p.m % 256) as u8)?;
-    file.push((p.r % 256) as u8)?;
-    Ok(())
+    fn push_header(&mut self, p: Params) -> anyhow::Result<()> {
+        self.file.extend_from_slice(b"PR")?;
+        self.file.extend_from_slice(&p.n.to_be_bytes())?;
+        self.file.extend_from_slice(&p.k.to_be_bytes())?;
+        self.file.push((p.m % 256) as u8)?;
+        self.file.push((p.r % 256) as u8)?;
+        Ok(())
+    }
 }
 
 // The file of a set with these parameters.
 pub fn make_file(heap: Global, p: Params) -> anyhow::Result<Vec<u8>> {
-    let mut file = Vec::new(heap);
-    let mut noise = Noise {
-        state: 88172645463325252,
+    let mut maker = Maker {
+        heap,
+        file: Vec::new(heap),
+        noise: Noise {
+            state: 88172645463325252,
+        },
     };
     let (n, k, r) = (p.n as usize, p.k as usize, (p.r % 256) as u8);
-    push_header(&mut file, p)?;
-    for i in 0..r {
-        push_record(&mut file, &mut noise, [b'L', b'M'], i + 1, n, n, true)?;
+    maker.push_header(p)?;
+    for number in 1..=r {
+        maker.push_record(Kind::Layer, number, n, n)?;
     }
-    for i in 0..r {
-        push_record(&mut file, &mut noise, [b'R', b'C'], i + 1, 1, n, false)?;
+    for number in 1..=r {
+        maker.push_record(Kind::Constant, number, 1, n)?;
     }
-    for i in 0..r {
-        push_record(&mut file, &mut noise, [b'K', b'M'], i, n, k, false)?;
+    for number in 0..=r {
+        maker.push_record(Kind::Key, number, n, k)?;
     }
-    push_record(&mut file, &mut noise, [b'K', b'M'], r, n, k, false)?;
-    file.extend_from_slice(&[b'E', b'N'])?;
-    Ok(file)
+    maker.file.extend_from_slice(b"EN")?;
+    Ok(maker.file)
 }

@@ -1,13 +1,14 @@
 -- The two tests say what they should: a bounded search finds what there is.
-use Rattle.std.proofs.Common.{◌≡◌, ℕ, zero, suc, ◌*◌, ◌^◌, ◌<◌, ◌≤◌, Bool, true, false, ◌&&◌, eqb, ltb, List, length, refl, ◌∙◌, subst, ap₂, inl, inr, arith}
+use Rattle.std.proofs.Common.{◌≡◌, ℕ, zero, suc, ◌*◌, ◌^◌, ◌<◌, Bool, true, false, ◌&&◌, eqb, ltb, List, ◌++◌, length, take, is_ok, Ok, Err, Result, sym, refl, ap, ◌∙◌, subst, ap₂, inl, inr, arith}
+use Rattle.std.proofs.lemmas.List.{take_at}
 use native.Mathlib.Decide.{ℕ_discrete}
 use Rattle.std.proofs.lemmas.Bool.{and_from, and_parts, both_ways, cases_Bool, eq-eqb, eqb-true, lt-ltb, ltb-true, cond-true, cond-false}
-use Rattle.bits.specs.Gf2.{Collapses, Independent, Inverse, Witness, comb, flat, inverse_of, mul, rows, value}
-use Rattle.bits.specs.Gauss.{Inverted, Refused}
+use Rattle.bits.specs.Gf2.{Collapses, Independent, Inverse, Witness, comb, flat, inverse_of, mul, rows, value, width_of}
+use Rattle.bits.specs.Gauss.{Outcome}
+use Rattle.bits.specs.declared.elimination.Singular.{Singular}
 use Rattle.bits.proofs.Inverse.{not_both}
-use Rattle.cipher.specs.Sets.{Matrix}
+use Rattle.bits.proofs.Vectors.{length_flat, length_rows}
 use Rattle.cipher.specs.Laws.{Invertible}
-use Rattle.drawing.proofs.Pieces.{read_back}
 use Rattle.drawing.specs.Drawing.{Keeping, keeps_key, keeps_layer, none}
 
 none_hit : (test : ℕ → Bool) (d x : ℕ) → x < d → test x ≡ true → none test d ≡ false
@@ -76,15 +77,28 @@ keeping = record {
   key_from = key_kept;
 }
 
--- ---- what inverting a layer that was drawn tells
+-- ---- what the tests tell
 
-pub layer_done : (n v w : ℕ) (M ws out wit wit' : List ℕ) → Matrix n n M → n ≤ 64 * v → w ≡ v → ws ≡ flat v M → Inverted w n ws out wit wit'
-    → (keeps_layer M ≡ true) × Invertible M × (out ≡ flat v (inverse_of M))
-layer_done n v w M ws out wit wit' m h e is i =
-    let r : rows w n ws ≡ M = read_back n n v w M ws m h e is in
-    let k : Invertible M = subst Invertible r (subst (Inverse (rows w n ws)) i.is i.inverse) in
-    (layer_kept M (inverse_of M) k, k, i.written ∙ ap₂ (λ (j : ℕ) (L : List ℕ). flat j (inverse_of L)) e r)
+-- a layer that was inverted is kept, and its inverse stands in front of what else there is
+pub layer_judged : (w n : ℕ) (ws out out' rest wit wit' : List ℕ) (r : Result Unit Singular) → w ≡ width_of n → Outcome w n ws out out' wit wit' r
+    → (is_ok r ≡ keeps_layer (rows w n ws))
+    × (is_ok r ≡ true
+    → Invertible (rows w n ws)
+    × (take (length (rows w n ws) * width_of (length (rows w n ws))) (out' ++ rest) ≡ flat (width_of (length (rows w n ws))) (inverse_of (rows w n ws))))
+layer_judged w n ws out out' rest wit wit' (Ok u) e i =
+    let M : List ℕ = rows w n ws in
+    let k : Invertible M = subst (Inverse M) i.is i.inverse in
+    let m : length M ≡ n = length_rows w n ws in
+    let l : length out' ≡ n * width_of n = ap length i.written ∙ length_flat w (inverse_of M) ∙ ap₂ ◌*◌ (k.size ∙ m) e in (
+      sym (layer_kept M (inverse_of M) k),
+      λ t. (
+        k,
+        subst (λ (j : ℕ). take (j * width_of j) (out' ++ rest) ≡ flat (width_of j) (inverse_of M)) (sym m)
+            (take_at out' rest (n * width_of n) l ∙ i.written ∙ ap (λ (j : ℕ). flat j (inverse_of M)) e),
+      ),
+    )
+layer_judged w n ws out out' rest wit wit' (Err s) e i = (sym (layer_dropped (rows w n ws) (value wit') i.witness), λ t. absurd (both_ways false refl t))
 
-pub layer_refused : (n v w : ℕ) (M ws out out' wit' : List ℕ) → Matrix n n M → n ≤ 64 * v → w ≡ v → ws ≡ flat v M → Refused w n ws out out' wit' → keeps_layer M ≡ false
-layer_refused n v w M ws out out' wit' m h e is i =
-    layer_dropped M (value wit') (subst (λ (L : List ℕ). Witness L (value wit')) (read_back n n v w M ws m h e is) i.witness)
+pub key_judged : (K : List ℕ) (b : Bool) → (b ≡ true → Independent K) → (Independent K → b ≡ true) → b ≡ keeps_key K
+key_judged K true s c = sym (key_kept K (s refl))
+key_judged K false s c = sym (key_dropped K (λ i. both_ways false refl (c i)))

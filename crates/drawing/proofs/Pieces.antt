@@ -1,13 +1,15 @@
 -- Pieces written one after another.
-use Rattle.std.proofs.Common.{◌≡◌, ℕ, ◌+◌, ◌*◌, ◌^◌, ◌<◌, ◌≤◌, List, [], ◌∷◌, ◌++◌, length, take, drop, sym, refl, ap, ◌∙◌, ap₂, suc-mul, add-one, arith, length-append, length-drop, length-take, pow_mono}
+use Rattle.std.proofs.Common.{◌≡◌, ℕ, ◌+◌, ◌*◌, ◌^◌, ◌<◌, ◌≤◌, List, [], ◌∷◌, ◌++◌, length, take, sym, refl, ap, ◌∙◌, ap₂, suc-mul, add-one, arith, pow_mono}
 use borrow.Rule.Slice.PartMut.{put_mid}
-use Rattle.std.proofs.lemmas.List.{append_assoc, append-nil, drop-append-le, drop-drop, drop-take, length_push}
-use Rattle.std.proofs.lemmas.Slice.{drop-put_mid, take-put_mid, take-put_mid_below}
-use Rattle.bits.specs.Gf2.{Below, flat, rows, words_of}
+use Rattle.std.proofs.lemmas.List.{append_assoc, append-nil, length_push}
+use Rattle.std.proofs.lemmas.Slice.{take-put_mid}
+use Rattle.bits.specs.Gf2.{Below, flat, rows, width_of, words_of}
+use Rattle.bits.specs.Matrices.{rows_in}
+use Rattle.bits.specs.declared.rows.Matrix.{Matrix as Lent}
 use Rattle.bits.proofs.Vectors.{length_flat, rows_flat}
 use Rattle.cipher.specs.Sets.{Each, Matrix, joined}
 use Rattle.cipher.proofs.Opens.{flat_append}
-use Rattle.drawing.specs.Drawing.{over}
+use Rattle.drawing.specs.Drawing.{Matrices}
 
 pub one_more : (i s : ℕ) → (i + 1) * s ≡ i * s + s
 one_more i s = ap (λ (k : ℕ). k * s) (add-one i) ∙ suc-mul i s
@@ -24,10 +26,10 @@ joined_push : (xs : List (List ℕ)) (x : List ℕ) → joined (xs ++ (x ∷ [])
 joined_push [] x = append-nil x
 joined_push (y ∷ xs) x = ap (λ (zs : List ℕ). y ++ zs) (joined_push xs x) ∙ sym (append_assoc y (joined xs) x)
 
-pub flat_joined : (w : ℕ) (xs : List (List ℕ)) (x : List ℕ) → flat w (joined (xs ++ (x ∷ []))) ≡ flat w (joined xs) ++ flat w x
+flat_joined : (w : ℕ) (xs : List (List ℕ)) (x : List ℕ) → flat w (joined (xs ++ (x ∷ []))) ≡ flat w (joined xs) ++ flat w x
 flat_joined w xs x = ap (flat w) (joined_push xs x) ∙ flat_append w (joined xs) x
 
-pub each_push : {A : Type 0} (P : A → Type 0) (xs : List A) (x : A) → Each P xs → P x → Each P (xs ++ (x ∷ []))
+each_push : {A : Type 0} (P : A → Type 0) (xs : List A) (x : A) → Each P xs → P x → Each P (xs ++ (x ∷ []))
 each_push P [] x e p = (p, tt)
 each_push P (y ∷ xs) x e p = (e.0, each_push P xs x e.1 p)
 
@@ -42,42 +44,28 @@ wider : (k m : ℕ) (xs : List ℕ) → k ≤ m → Below k xs → Below m xs
 wider k m [] h b = tt
 wider k m (x ∷ xs) h b = (omega (arith, b.0, pow_mono h), wider k m xs h b.1)
 
--- a matrix in memory is read back
-pub read_back : (n k v w : ℕ) (M ws : List ℕ) → Matrix n k M → k ≤ 64 * v → w ≡ v → ws ≡ flat v M → rows w n ws ≡ M
-read_back n k v w M ws m h e is =
-    ap₂ (λ (i : ℕ) (xs : List ℕ). rows i n xs) e is ∙ ap (λ (i : ℕ). rows v i (flat v M)) (sym m.size) ∙ rows_flat v M (wider k (64 * v) M h m.narrow)
+-- a matrix that was drawn is read back where it is lent
+pub drawn_rows : (n k w : ℕ) (M ws : List ℕ) (m : Lent) → m.words.now ≡ ws → (m.width ≡ w) × (m.height ≡ n) → k ≤ 64 * w → w ≡ width_of k → Matrix n k M → ws ≡ flat (width_of k) M
+    → rows_in m ≡ M
+drawn_rows n k w M ws m here shape h e drawn is =
+    ap₂ (λ (i j : ℕ). rows i j m.words.now) shape.0 (shape.1 ∙ sym drawn.size) ∙ ap (rows w (length M)) (here ∙ is ∙ ap (λ (i : ℕ). flat i M) (sym e))
+    ∙ rows_flat w M (wider k (64 * w) M h drawn.narrow)
 
 -- how long a matrix is in memory
 pub length_matrix : (n k v : ℕ) (M ws : List ℕ) → Matrix n k M → ws ≡ flat v M → length ws ≡ n * v
 length_matrix n k v M ws m is = ap length is ∙ length_flat v M ∙ ap (λ (i : ℕ). i * v) m.size
 
--- ---- layers in front, and their inverses from a place on
+-- ---- one matrix more
 
-take_over : (n at : ℕ) (piece xs : List ℕ) → n ≤ at → at ≤ length xs → take n (over at piece xs) ≡ take n xs
-take_over n at piece xs h l = take-put_mid_below at (length piece) xs piece n h l
+pub no_matrices : (P : List ℕ → Type 0) (n k : ℕ) → Matrices P n k 0 []
+no_matrices P n k = record { size = refl; each = tt; have = tt }
 
-drop_over : (n at : ℕ) (piece xs : List ℕ) → at + length piece ≤ n → at ≤ length xs → drop n (over at piece xs) ≡ drop n xs
-drop_over n at piece xs h l = drop-put_mid at (length piece) xs piece n h l refl
+pub matrices_push : (P : List ℕ → Type 0) (n k count : ℕ) (Ms : List (List ℕ)) (M : List ℕ) → Matrices P n k count Ms → Matrix n k M → P M → Matrices P n k (count + 1) (Ms ++ (M ∷ []))
+matrices_push P n k count Ms M h m p =
+    record { size = length_push Ms M ∙ ap (λ (i : ℕ). i + 1) h.size; each = each_push (Matrix n k) Ms M h.each m; have = each_push P Ms M h.have p }
 
-over_later : (n at : ℕ) (piece xs : List ℕ) → n + at ≤ length xs → drop n (over (n + at) piece xs) ≡ over at piece (drop n xs)
-over_later n at piece xs h =
-    let l : n ≤ length (take (n + at) xs) = simp length-take (omega arith) in
-    drop-append-le n (take (n + at) xs) (piece ++ drop (length piece) (drop (n + at) xs)) l
-    ∙ ap₂ (λ (a b : List ℕ). a ++ (piece ++ drop (length piece) b)) (drop-take n at xs) (sym (drop-drop at n xs))
-
-pub two_written : (s i second : ℕ) (words one other front back : List ℕ) → i * s + s ≤ second → second + i * s + s ≤ length words → length one ≡ s → length other ≡ s
-    → take (i * s) words ≡ front → take (i * s) (drop second words) ≡ back
-    → (take ((i + 1) * s) (over (second + i * s) other (over (i * s) one words)) ≡ front ++ one)
-    × (take ((i + 1) * s) (drop second (over (second + i * s) other (over (i * s) one words))) ≡ back ++ other)
-two_written s i second words one other front back hf hs lo lt ef eb =
-    let mid : List ℕ = over (i * s) one words in
-    let lm : length mid ≡ length words = same_length (i * s) one words (omega arith) in (
-      take_over ((i + 1) * s) (second + i * s) other mid (omega (arith, one_more i s)) (omega arith)
-          ∙ filled s i (length one) words one front (omega arith) lo ef,
-      ap (take ((i + 1) * s)) (over_later second (i * s) other mid (omega arith))
-          ∙ filled s i (length other) (drop second mid) other back (simp length-drop (omega arith)) lt
-          (ap (take (i * s)) (drop_over second (i * s) one words (omega arith) (omega arith)) ∙ eb),
-    )
-  where
-    same_length : (at : ℕ) (piece xs : List ℕ) → at + length piece ≤ length xs → length (over at piece xs) ≡ length xs
-    same_length at piece xs h = simp (length-append, length-take, length-drop) (omega arith)
+-- matrix i, of s words, is written after those before it
+pub written : (s i k w : ℕ) (out new : List ℕ) (Ms : List (List ℕ)) (M : List ℕ) → i * s + s ≤ length out → length new ≡ s → take (i * s) out ≡ flat w (joined Ms) → new ≡ flat w M
+    → take ((i + 1) * s) (put_mid (i * s) k out new) ≡ flat w (joined (Ms ++ (M ∷ [])))
+written s i k w out new Ms M h l e is =
+    filled s i k out new (flat w (joined Ms)) h l e ∙ ap (λ (xs : List ℕ). flat w (joined Ms) ++ xs) is ∙ sym (flat_joined w Ms M)

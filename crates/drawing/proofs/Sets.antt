@@ -1,42 +1,17 @@
 -- A whole set from its parts.
-use Rattle.std.proofs.Common.{◌≡◌, ℕ, ◌+◌, ◌-◌, ◌*◌, ◌<◌, ◌≤◌, Bool, ltb, List, [], ◌∷◌, ◌++◌, map, length, take, drop, replicate, Ok, Err, Result, sym, refl, ap, ◌∙◌, subst, ap₂, mul_assoc, zero-add, arith}
-use borrow.Rule.Slice.PartMut.{put_mid}
-use Rattle.std.proofs.lemmas.List.{append_assoc, drop_at, drop-drop}
-use Rattle.std.proofs.lemmas.Slice.{drop-put_mid, take-put_mid}
-use Rattle.std.proofs.lemmas.Bool.{le-ltb, lt-ltb}
+use Rattle.std.proofs.Common.{◌≡◌, ℕ, ◌+◌, ◌≤◌, Bool, ltb, List, [], ◌∷◌, ◌++◌, drop, Ok, Err, Result, sym, refl, ap, ◌∙◌, subst, ap₂, zero-add, arith}
+use Rattle.std.proofs.lemmas.Bool.{le-ltb}
 use Rattle.bits.specs.declared.refusal.Refusal.TheVariants.{KeyTooNarrow, TooFewWords}
 use Rattle.bits.specs.declared.refusal.Layer.TheVariants.{Draw, Set as SetLayer}
 use Rattle.bits.specs.declared.refusal.Fault.{Fault}
 use Rattle.bits.specs.Refusals.{fault_at, first_of, then}
-use Rattle.bits.specs.Gf2.{flat, inverse_of}
-use Rattle.bits.proofs.Vectors.{length_flat}
 use Rattle.cipher.specs.declared.params.Params.{Params}
-use Rattle.cipher.specs.Parameters.{Lawful, block_words_of, key_words_of, limits, prepared_words_of}
-use Rattle.cipher.specs.Sets.{Matrix, Set, joined, prepared}
+use Rattle.cipher.specs.Parameters.{Lawful, limits, prepared_words_of}
+use Rattle.cipher.specs.Sets.{Matrix, Set, prepared}
 use Rattle.cipher.specs.Instances.{opening, set_in}
-use Rattle.cipher.proofs.Opens.{length_joined, prepared_holds, prepared_opens}
+use Rattle.cipher.proofs.Opens.{prepared_holds, prepared_opens}
 use Rattle.drawing.specs.Streams.{Sees, Stream}
 use Rattle.drawing.specs.Drawing.{Drawn, Draws, Keys, Layers, Opens, Sound, SoundSet, Took, counted, drawn_set, kept_key, kept_layer, matrix, ready, several, stop, words_after}
-
--- two parts are written, one after another
-pub assembled : (a b c k l : ℕ) (ws B C : List ℕ) → a ≤ b → b ≤ c → c ≤ length ws → length B ≡ b - a → length C ≡ c - b → k ≡ b - a → l ≡ c - b
-    → put_mid b l (put_mid a k ws B) C ≡ take a ws ++ (B ++ (C ++ drop c ws))
-assembled a b c k l ws B C ab bc cl lb lc ek el =
-    let X : List ℕ = put_mid a k ws B in
-    let n : b + l ≡ c = omega arith in
-    ap₂ (λ (xs ys : List ℕ). xs ++ (C ++ ys)) (take-put_mid a k ws B b (omega arith) (omega arith))
-    (drop-drop l b X ∙ ap (λ (i : ℕ). drop i X) n ∙ drop-put_mid a k ws B c (omega arith) (omega arith) (lb ∙ sym ek))
-    ∙ append_assoc (take a ws) B (C ++ drop c ws)
-
--- and the words are those of the set
-pub whole : (p : Params) (Ls : List (List ℕ)) (Cs : List ℕ) (Ks : List (List ℕ)) (a c : ℕ) (ws B C : List ℕ) → take a ws ≡ flat (block_words_of p) (joined Ls)
-    → B ≡ flat (block_words_of p) Cs → C ≡ flat (key_words_of p) (joined Ks) → drop c ws ≡ flat (block_words_of p) (joined (map inverse_of Ls))
-    → take a ws ++ (B ++ (C ++ drop c ws)) ≡ prepared (record { params = p; layers = Ls; constants = Cs; keys = Ks })
-whole p Ls Cs Ks a c ws B C ea eb ec ed = ap₂ ◌++◌ ea (ap₂ ◌++◌ eb (ap₂ ◌++◌ ec ed))
-
-pub length_keys : (n k v count : ℕ) (Ks : List (List ℕ)) (ws : List ℕ) → Keys n k count Ks → ws ≡ flat v (joined Ks) → length ws ≡ count * (n * v)
-length_keys n k v count Ks ws m is =
-    ap length is ∙ length_flat v (joined Ks) ∙ ap (λ (i : ℕ). i * v) (length_joined n k count Ks m.size m.each) ∙ mul_assoc count n v
 
 -- ---- the steps of a set
 
@@ -54,10 +29,6 @@ module _ (f : Stream) (p : Params) where
   unfolding seconds thirds made
   opens = refl
 
-  pub layers_stop : (e : Fault) → several (kept_layer f p.n) p.r 0 ≡ Err e → drawn_set f p ≡ Err e
-  unfolding seconds
-  layers_stop e h = opens ∙ ap seconds h
-
   after_layers : (at : ℕ) (Ls : List (List ℕ)) → several (kept_layer f p.n) p.r 0 ≡ Ok (Ls, at) → drawn_set f p ≡ thirds Ls (matrix f p.r p.n at)
   unfolding seconds
   after_layers at Ls h = opens ∙ ap seconds h
@@ -71,24 +42,22 @@ module _ (f : Stream) (p : Params) where
   unfolding thirds
   keyed at q Ls Cs h i = after_layers at Ls h ∙ ap (thirds Ls) i
 
-  -- the key matrices come last: what they answer is the answer
-  pub keys_last : (at q : ℕ) (Ls : List (List ℕ)) (Cs : List ℕ) (P : List (List ℕ) → Type 0) (Q : Set → Type 0)
-      → several (kept_layer f p.n) p.r 0 ≡ Ok (Ls, at) → matrix f p.r p.n at ≡ Ok (Cs, q)
-      → ((Ks : List (List ℕ)) → P Ks → Q (record { params = p; layers = Ls; constants = Cs; keys = Ks }))
-      → (r : Result ℕ Fault) (g : Stream) → Took f (several (kept_key f p.n p.k) (p.r + 1) q) P r g → Took f (drawn_set f p) Q r g
+  pub keys_stop : (at q : ℕ) (Ls : List (List ℕ)) (Cs : List ℕ) (e : Fault) → several (kept_layer f p.n) p.r 0 ≡ Ok (Ls, at) → matrix f p.r p.n at ≡ Ok (Cs, q)
+      → several (kept_key f p.n p.k) (p.r + 1) q ≡ Err e → drawn_set f p ≡ Err e
+  keys_stop at q Ls Cs e h i k = keyed at q Ls Cs h i ∙ ap (λ (d : Drawn (List (List ℕ))). then d (λ Ks. Ok (made p Ls Cs Ks.0, Ks.1))) k
+
+  pub keys_drawn : (at q z : ℕ) (Ls : List (List ℕ)) (Cs : List ℕ) (Ks : List (List ℕ)) → several (kept_layer f p.n) p.r 0 ≡ Ok (Ls, at) → matrix f p.r p.n at ≡ Ok (Cs, q)
+      → several (kept_key f p.n p.k) (p.r + 1) q ≡ Ok (Ks, z) → drawn_set f p ≡ Ok (record { params = p; layers = Ls; constants = Cs; keys = Ks }, z)
   unfolding made
-  keys_last at q Ls Cs P Q h i t (Ok z) g (Ks, e, x, s) =
-      (made p Ls Cs Ks, keyed at q Ls Cs h i ∙ ap (λ (d : Drawn (List (List ℕ))). then d (λ Ks. Ok (made p Ls Cs Ks.0, Ks.1))) e, t Ks x, s)
-  keys_last at q Ls Cs P Q h i t (Err z) g (e, s) =
-      (keyed at q Ls Cs h i ∙ ap (λ (d : Drawn (List (List ℕ))). then d (λ Ks. Ok (made p Ls Cs Ks.0, Ks.1))) e, s)
+  keys_drawn at q z Ls Cs Ks h i k = keyed at q Ls Cs h i ∙ ap (λ (d : Drawn (List (List ℕ))). then d (λ Ks. Ok (made p Ls Cs Ks.0, Ks.1))) k
 
 pub sound : (p : Params) (Ls : List (List ℕ)) (Cs : List ℕ) (Ks : List (List ℕ)) → Lawful p → Layers p.n p.r Ls → Matrix p.r p.n Cs → Keys p.n p.k (p.r + 1) Ks
     → SoundSet (record { params = p; layers = Ls; constants = Cs; keys = Ks })
 sound p Ls Cs Ks l a b c =
     record {
       lawful = record { limits = l; rounds = a.size; layers = a.each; constants = b; key_rounds = c.size; keys = c.each };
-      invertible = a.invertible;
-      independent = c.independent;
+      invertible = a.have;
+      independent = c.have;
     }
 
 -- ---- the checks before a bit is taken
@@ -97,22 +66,6 @@ checks : Params → ℕ → Bool → Bool → Result Unit Fault → Result Unit 
 checks p room narrow short l = then l (λ _. first_of ((narrow, fault_at KeyTooNarrow Draw 0) ∷ (short, fault_at TooFewWords SetLayer (prepared_words_of p)) ∷ []))
 
 module _ (p : Params) (room : ℕ) where
-  pub ready_limits : (e : Fault) → limits p ≡ Err e → ready p room ≡ Err e
-  unfolding checks
-  ready_limits e h = ap (checks p room (ltb p.k p.n) (ltb room (prepared_words_of p))) h
-
-  pub ready_narrow : limits p ≡ Ok tt → p.k < p.n → ready p room ≡ Err (fault_at KeyTooNarrow Draw 0)
-  unfolding checks
-  ready_narrow h a =
-      ap (checks p room (ltb p.k p.n) (ltb room (prepared_words_of p))) h
-      ∙ ap (λ (b : Bool). checks p room b (ltb room (prepared_words_of p)) (Ok tt)) (lt-ltb p.k p.n a)
-
-  pub ready_short : limits p ≡ Ok tt → p.n ≤ p.k → room < prepared_words_of p → ready p room ≡ Err (fault_at TooFewWords SetLayer (prepared_words_of p))
-  unfolding checks
-  ready_short h a b =
-      ap (checks p room (ltb p.k p.n) (ltb room (prepared_words_of p))) h
-      ∙ ap₂ (λ (x y : Bool). checks p room x y (Ok tt)) (le-ltb p.k p.n a) (lt-ltb room (prepared_words_of p) b)
-
   pub ready_all : limits p ≡ Ok tt → p.n ≤ p.k → prepared_words_of p ≤ room → ready p room ≡ Ok tt
   unfolding checks
   ready_all h a b =
@@ -124,24 +77,12 @@ module _ (p : Params) (room : ℕ) where
 pub sees_self : (f : Stream) → Sees f f 0
 sees_self f i = ap f (sym (zero-add i))
 
-pub draws_refused : (p : Params) (f : Stream) (words : List ℕ) (ready : Result Unit Fault) (r : Result ℕ Fault) (e : Fault) → ready ≡ Err e → r ≡ Err e → Draws p f words ready r words f
-draws_refused p f words ready r e h q = subst (λ (x : Result Unit Fault). Draws p f words x r words f) (sym h) (q, refl, sees_self f)
-
 pub draws_done : (p : Params) (f : Stream) (words part : List ℕ) (used : ℕ) (ready : Result Unit Fault) (at : ℕ) (g : Stream) → used ≡ prepared_words_of p → ready ≡ Ok tt
     → Took f (drawn_set f p) (λ s. SoundSet s × (part ≡ prepared s)) (Ok at) g → Draws p f words ready (Ok at) (part ++ drop used words) g
 draws_done p f words part used ready at g u h (s, e, (o, is), sees) =
     subst (λ (x : Result Unit Fault). Draws p f words x (Ok at) (part ++ drop used words) g) (sym h)
     (subst (λ (d : Drawn Set). (Ok at ≡ counted d) × (part ++ drop used words ≡ words_after p words d) × Sees f g (stop (counted d)) × Sound d) (sym e)
     (refl, ap₂ (λ (xs : List ℕ) (i : ℕ). xs ++ drop i words) is u, sees, o))
-
-pub draws_stopped : (p : Params) (f : Stream) (words part zeros : List ℕ) (used n : ℕ) (ready : Result Unit Fault) (e : Fault) (g : Stream) → used ≡ prepared_words_of p → ready ≡ Ok tt
-    → length part ≡ used → n ≡ used → zeros ≡ replicate n 0
-    → (drawn_set f p ≡ Err e) × Sees f g e.place → Draws p f words ready (Err e) (zeros ++ drop used (part ++ drop used words)) g
-draws_stopped p f words part zeros used n ready e g u h l ln z (d, sees) =
-    let after : List ℕ = zeros ++ drop used (part ++ drop used words) in
-    subst (λ (x : Result Unit Fault). Draws p f words x (Err e) after g) (sym h)
-    (subst (λ (d : Drawn Set). (Err e ≡ counted d) × (after ≡ words_after p words d) × Sees f g (stop (counted d)) × Sound d) (sym d)
-    (refl, ap₂ ◌++◌ (z ∙ ap (λ (i : ℕ). replicate i 0) (ln ∙ u)) (drop_at part (drop used words) used l ∙ ap (λ (i : ℕ). drop i words) u), sees, tt))
 
 -- ---- what was drawn opens
 

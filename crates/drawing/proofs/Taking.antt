@@ -6,15 +6,12 @@ use Rattle.bits.specs.declared.refusal.Fault.{Fault}
 use Rattle.bits.specs.Refusals.{fault_at, then}
 use Rattle.bits.specs.Gf2.{Words}
 use Rattle.drawing.specs.Streams.{Sees, Stream}
-use Rattle.drawing.specs.Drawing.{Drawn, Took, bit_of, first_kept, row, several}
+use Rattle.drawing.specs.Drawing.{Drawn, Took, bit_of, ending, first_kept, row, several}
 
 -- ---- streams
 
-pub sees_start : (f g : Stream) (p : ℕ) → Sees f g p → Sees f g (p + 0)
-sees_start f g p s i = s i ∙ ap (λ (q : ℕ). f (q + i)) (sym (add-zero p))
-
-pub sees_more : (f g h : Stream) (p q : ℕ) → Sees f g p → Sees g h 1 → p + 1 ≡ q → Sees f h q
-sees_more f g h p q a b e i = b i ∙ a (1 + i) ∙ ap f (omega arith)
+pub sees_more : (f g h : Stream) (p d q : ℕ) → Sees f g p → Sees g h d → p + d ≡ q → Sees f h q
+sees_more f g h p d q a b e i = b i ∙ a (d + i) ∙ ap f (omega (arith, e))
 
 pub sees_here : (f g : Stream) (p : ℕ) (o : Option ℕ) → Sees f g p → g 0 ≡ o → f p ≡ o
 sees_here f g p o s e = ap f (sym (add-zero p)) ∙ sym (s 0) ∙ e
@@ -127,6 +124,10 @@ module _ {A : Type 0} (keeps : A → Bool) (draw : ℕ → Drawn A) where
 
 pub took_stop : {A : Type 0} (f : Stream) (d : Drawn A) (P : A → Type 0) (g : Stream) (r : Result ℕ Fault) (e y : Fault) → r ≡ Err y → y ≡ e → d ≡ Err e → Sees f g e.place → Took f d P r g
 took_stop f d P g r e y q c h s = subst (λ (r : Result ℕ Fault). Took f d P r g) (sym (q ∙ ap Err c)) (h, s)
+
+pub drew_stop : {A : Type 0} (f : Stream) (d : Drawn A) (P : A → Type 0) (g : Stream) (r : Result Unit Fault) (to : ℕ) (e y : Fault) → r ≡ Err y → y ≡ e → d ≡ Err e → Sees f g e.place
+    → Took f d P (ending r to) g
+drew_stop f d P g r to e y q = took_stop f d P g (ending r to) e y (ap (λ (r : Result Unit Fault). ending r to) q)
 
 -- ---- words of zeros
 

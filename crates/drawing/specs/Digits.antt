@@ -1,25 +1,28 @@
 -- Each bit that the sources give is 0 or 1: facts that the sources themselves hold.
 use Rattle.std.specs.Prelude.{ℕ, zero, suc, ◌/◌, ◌%◌, ◌^◌, ◌<◌, Bool, true, false, cond, List, length, Some, None, Option, ◌==◌, bit_xor, nat_lt, slice_index}
-use Rattle.std.proofs.Common.{arith}
+use Rattle.std.proofs.Common.{lit<, mod-lt}
 use Rattle.std.proofs.lemmas.Nat.{xor_lt}
 use Rattle.drawing.specs.Streams.{Bit, Bits, tape}
 use Rattle.drawing.specs.Grain.{Given, at, given, grain, new_bit_of, nth, shift}
+
+odd_or_even : (x : ℕ) → x % 2 < 2
+odd_or_even x = mod-lt x (lit< tt)
 
 pub tape_digits : (bytes : List ℕ) (i : ℕ) → Bit (tape bytes i)
 tape_digits bytes i = go (nat_lt (i / 8) (length bytes)) (slice_index bytes (i / 8) / 2 ^ (i % 8))
   where
     go : (t : Bool) (x : ℕ) → Bit (cond t (Some (x % 2)) None)
-    go true x = omega arith
+    go true x = odd_or_even x
     go false x = tt
 
 two : {a b : ℕ} → a < 2 → b < 2 → bit_xor a b < 2
 two {a} {b} = xor_lt 1 a b
 
 tap : (s j : ℕ) → at s j < 2
-tap s j = omega arith
+tap s j = odd_or_even (s / 2 ^ j)
 
 pub new_below : (s : ℕ) → new_bit_of s < 2
-new_below s = let z : s % 2 < 2 = omega arith in two (two (two (two (two (tap s 62) (tap s 51)) (tap s 38)) (tap s 23)) (tap s 13)) z
+new_below s = two (two (two (two (two (tap s 62) (tap s 51)) (tap s 38)) (tap s 23)) (tap s 13)) (odd_or_even s)
 
 abbrev Fine : Option Given → Type 0
 Fine None = Unit {0}

@@ -1,6 +1,6 @@
 -- What is drawn from a stream of bits. Each step begins at a place and either gives a value with the place after it, or stops with a refusal
 -- whose place is how many bits were taken until then.
-use Rattle.std.specs.Prelude.{◌≡◌, ℕ, zero, suc, ◌+◌, ◌*◌, ◌^◌, Bool, true, false, cond, ◌&&◌, List, [], ◌∷◌, ◌++◌, length, take, drop, replicate, Some, None, Ok, Err, Option, Result, ◌==◌, nat_lt}
+use Rattle.std.specs.Prelude.{◌≡◌, ℕ, zero, suc, ◌+◌, ◌*◌, ◌^◌, ◌<◌, Bool, true, false, cond, ◌&&◌, List, [], ◌∷◌, ◌++◌, length, drop, replicate, Some, None, Ok, Err, Option, Result, ◌==◌, nat_lt}
 use Rattle.bits.specs.declared.refusal.Refusal.TheVariants.{KeyTooNarrow, NothingKept, SourceDry, TooFewWords}
 use Rattle.bits.specs.declared.refusal.Layer.TheVariants.{Draw, Set as SetLayer}
 use Rattle.bits.specs.declared.refusal.Fault.{Fault}
@@ -135,18 +135,31 @@ abbrev pub Took : {A : Type 0} → Stream → Drawn A → (A → Type 0) → Res
 Took {A} f d P (Ok at) g = (x : A) × (d ≡ Ok (x, at)) × P x × Sees f g at
 Took f d P (Err e) g = (d ≡ Err e) × Sees f g e.place
 
+-- one bit was asked for from g, `at` bits taken: it is 0 or 1, and h is left, `to` bits taken
+abbrev pub TookBit : Stream → ℕ → Result ℕ Fault → Stream → ℕ → Type 0
+TookBit g at (Ok b) h to = (g 0 ≡ Some b) × (b < 2) × Sees g h 1 × (to ≡ at + 1)
+TookBit g at (Err e) h to = (g 0 ≡ None) × (e ≡ fault_at SourceDry Draw at) × Sees g h 0
+
+-- the answer of a step, with the place where it ended
+abbrev pub ending : Result Unit Fault → ℕ → Result ℕ Fault
+ending (Ok _) to = Ok to
+ending (Err e) to = Err e
+
+-- a step of drawing was asked from g, `at` bits taken, answered r, and left h, `to` bits taken: of whatever stream g is what is left, it took what the
+-- definition gives there
+abbrev pub Drew : {A : Type 0} → (Stream → ℕ → Drawn A) → (A → Type 0) → Stream → ℕ → Result Unit Fault → Stream → ℕ → Type 0
+Drew step P g at r h to = (f : Stream) → Sees f g at → Took f (step f at) P (ending r to) h
+
+-- so many matrices of n rows of k bits, each with a property
+pub record Matrices (P : List ℕ → Type 0) (n k count : ℕ) (Ms : List (List ℕ)) : Type 0 where
+  pub size : length Ms ≡ count
+  pub each : Each (Matrix n k) Ms
+  pub have : Each P Ms
+
 -- so many layers of n rows, each with an inverse
-pub record Layers (n count : ℕ) (Ls : List (List ℕ)) : Type 0 where
-  pub size : length Ls ≡ count
-  pub each : Each (Matrix n n) Ls
-  pub invertible : Each Invertible Ls
+abbrev pub Layers : ℕ → ℕ → List (List ℕ) → Type 0
+Layers n = Matrices Invertible n n
 
 -- so many key matrices of n rows of k bits, each with independent rows
-pub record Keys (n k count : ℕ) (Ks : List (List ℕ)) : Type 0 where
-  pub size : length Ks ≡ count
-  pub each : Each (Matrix n k) Ks
-  pub independent : Each Independent Ks
-
--- words with a piece written over them from a place on
-abbrev pub over : ℕ → List ℕ → List ℕ → List ℕ
-over at piece words = take at words ++ (piece ++ drop (length piece) (drop at words))
+abbrev pub Keys : ℕ → ℕ → ℕ → List (List ℕ) → Type 0
+Keys = Matrices Independent

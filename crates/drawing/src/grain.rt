@@ -20,27 +20,28 @@ fn new_bit(s: u128) -> u128
     (s >> 62) % 2 ^ (s >> 51) % 2 ^ (s >> 38) % 2 ^ (s >> 23) % 2 ^ (s >> 13) % 2 ^ s % 2
 }
 
-// The register one bit later.
-fn step(s: u128) -> u128
-    requires some { 0 < s }
-    requires within { s < 2 ^ 80 }
-    ensures is { result ≡ shift s }
-    ensures some { 0 < result }
-    ensures within { result < 2 ^ 80 }
-{
-    s / 2 + (new_bit(s) << 79)
-}
-
 impl GrainSource {
     // All bits 1 at first; the first 160 new bits are dropped.
     pub fn new() -> GrainSource
         ensures { result.register ≡ begun }
     {
-        let mut register = (1 << 80) - 1;
+        let mut source = GrainSource {
+            register: (1 << 80) - 1,
+        };
         for _i in 0..160usize {
-            register = step(register);
+            source.step();
         }
-        GrainSource { register }
+        source
+    }
+
+    // Moves the register one bit on: the new bit.
+    fn step(&mut self) -> u128
+        ensures bit { result ≡ new_bit_of self.old.register }
+        ensures moved { self.new.register ≡ shift self.old.register }
+    {
+        let bit = new_bit(self.register);
+        self.register = self.register / 2 + (bit << 79);
+        bit
     }
 }
 
@@ -51,14 +52,14 @@ impl BitSource for GrainSource {
 
     // New bits come in pairs: a pair that begins with 1 gives its second bit, another gives nothing.
     fn next(&mut self) -> Option<u8> {
-        let mut s = self.register;
+        let mut ahead = GrainSource {
+            register: self.register,
+        };
         for _pair in 0..80usize {
-            let first = new_bit(s);
-            s = step(s);
-            let second = new_bit(s);
-            s = step(s);
+            let first = ahead.step();
+            let second = ahead.step();
             if first == 1 {
-                self.register = s;
+                *self = ahead;
                 return Some(second as u8);
             }
         }
@@ -67,8 +68,6 @@ impl BitSource for GrainSource {
 }
 
 // The first eighteen new bits are 0, and the nineteenth is 1.
-pub fn grain_stands() -> u8
+pub fn grain_stands()
     ensures { GrainExample }
-{
-    0
-}
+{}

@@ -3,5 +3,8 @@
 
 pub mod drawer;
 pub mod grain;
+mod keep;
+mod matrices;
+mod parts;
 pub mod source;
 pub mod tape;

@@ -2,18 +2,18 @@
 
 // Writes the bytes to words that are 0.
 pub(crate) fn put_bytes(words: &mut [u64], bytes: &[u8]) {
-    for (i, b) in bytes.iter().enumerate() {
-        if i / 8 < words.len() {
-            words[i / 8] |= u64::from(b.reverse_bits()) << (8 * (i % 8));
-        }
+    for (word, eight) in words.iter_mut().zip(bytes.chunks(8)) {
+        *word = eight
+            .iter()
+            .rev()
+            .fold(0, |x, b| x << 8 | u64::from(b.reverse_bits()));
     }
 }
 
-// Byte `i` of the words, 0 past their end.
-pub(crate) fn byte_at(words: &[u64], i: usize) -> u8 {
-    if i / 8 >= words.len() {
-        return 0;
+// Writes the bytes of the words, as many as `out` has: those past the last word are 0.
+pub(crate) fn get_bytes(words: &[u64], out: &mut [u8]) {
+    for (i, byte) in out.iter_mut().enumerate() {
+        let word = words.get(i / 8).copied().unwrap_or(0);
+        *byte = word.to_le_bytes()[i % 8].reverse_bits();
     }
-    let low = (words[i / 8] >> (8 * (i % 8))) % 256;
-    (low as u8).reverse_bits()
 }

@@ -24,31 +24,30 @@ pub(crate) fn exchange_bits(vector: &mut [u64], m: u16) {
 // Exchanges the first and the last of three rows.
 fn exchange_outer(three: &mut [u64]) {
     let w = three.len() / 3;
-    for i in 0..w {
-        three.swap(i, 2 * w + i);
-    }
+    let (first, rest) = three.split_at_mut(w);
+    first.swap_with_slice(&mut rest[w..2 * w]);
 }
 
-// Exchanges the outer rows of each of the `m` triples of a matrix whose rows have `w` words.
-fn exchange_rows(matrix: &mut [u64], w: usize, m: u16) {
-    let size = w.saturating_mul(3).max(1);
-    for three in matrix.chunks_exact_mut(size).take(m as usize) {
+// Exchanges the outer rows of each triple of a matrix whose rows have `width` words.
+fn exchange_rows(p: Params, matrix: &mut [u64], width: usize) {
+    let size = width.saturating_mul(3).max(1);
+    for three in matrix.chunks_exact_mut(size).take(p.m as usize) {
         exchange_outer(three);
     }
 }
 
-// Exchanges bits in each of many vectors of `w` words: constants, or the columns of a matrix.
-fn exchange_vectors(vectors: &mut [u64], w: usize, m: u16) {
-    for vector in vectors.chunks_exact_mut(w.max(1)) {
-        exchange_bits(vector, m);
+// Exchanges rows in each of many matrices of `n` rows.
+fn exchange_matrices(p: Params, matrices: &mut [u64], width: usize) {
+    let size = width.saturating_mul(p.n as usize).max(1);
+    for matrix in matrices.chunks_exact_mut(size) {
+        exchange_rows(p, matrix, width);
     }
 }
 
-// Exchanges rows in each of many matrices of `n` rows.
-fn exchange_matrices(matrices: &mut [u64], n: u16, w: usize, m: u16) {
-    let size = w.saturating_mul(n as usize).max(1);
-    for matrix in matrices.chunks_exact_mut(size) {
-        exchange_rows(matrix, w, m);
+// Exchanges bits in each of many vectors of `n` bits: constants, or the rows of layers and their inverses.
+fn exchange_vectors(p: Params, vectors: &mut [u64]) {
+    for vector in vectors.chunks_exact_mut(p.block_words().max(1)) {
+        exchange_bits(vector, p.m);
     }
 }
 
@@ -61,16 +60,16 @@ fn part(words: &mut [u64], from: usize, to: usize) -> &mut [u64] {
 
 // The prepared set in the other numbering: layers, constants, key matrices, inverses.
 pub(crate) fn exchange_set(p: Params, words: &mut [u64]) {
-    let (n, m, r) = (p.n, p.m, p.r as usize);
+    let (n, r) = (p.n as usize, p.r as usize);
     let (w, v) = (p.block_words(), p.key_words());
-    let layers = r.saturating_mul(w.saturating_mul(n as usize));
+    let layers = r.saturating_mul(w.saturating_mul(n));
     let constants = layers.saturating_add(r.saturating_mul(w));
-    let keys = constants.saturating_add(v.saturating_mul(n as usize).saturating_mul(r + 1));
+    let keys = constants.saturating_add(v.saturating_mul(n).saturating_mul(r + 1));
     let all = p.prepared_words();
-    exchange_matrices(part(words, 0, layers), n, w, m);
+    exchange_matrices(p, part(words, 0, layers), w);
     // the rows of all layers and the constants, which stand after them, are vectors of one width
-    exchange_vectors(part(words, 0, constants), w, m);
-    exchange_matrices(part(words, constants, keys), n, v, m);
-    exchange_matrices(part(words, keys, all), n, w, m);
-    exchange_vectors(part(words, keys, all), w, m);
+    exchange_vectors(p, part(words, 0, constants));
+    exchange_matrices(p, part(words, constants, keys), v);
+    exchange_matrices(p, part(words, keys, all), w);
+    exchange_vectors(p, part(words, keys, all));
 }

@@ -6,7 +6,7 @@ mod bytes;
 mod exchange;
 
 use bits::refusal::Fault;
-use bytes::{byte_at, put_bytes};
+use bytes::{get_bytes, put_bytes};
 use cipher::instance::Instance;
 use cipher::params::Params;
 use drawing::drawer::draw;
@@ -19,23 +19,11 @@ const KEY: [u8; 1] = [0x80];
 
 const PLAINTEXT: [u8; 2] = [0xab, 0xff];
 
-fn print_refusal(rt: &HostRuntime, fault: Fault) -> io::Result<()> {
-    let number = fault.refusal.number();
-    println!(rt; "refused: {} at {}", number, fault.place)
-}
-
 fn print_bytes(rt: &HostRuntime, bytes: &[u8]) -> io::Result<()> {
     for b in bytes {
         print!(rt; "{b:02x}")?;
     }
     Ok(())
-}
-
-// The bytes of the words, as many as `out` has.
-fn get_bytes(words: &[u64], out: &mut [u8]) {
-    for i in 0..out.len() {
-        out[i] = byte_at(words, i);
-    }
 }
 
 fn print_line(rt: &HostRuntime, p: Params, expected: &[u8], computed: &[u8]) -> io::Result<()> {
@@ -60,46 +48,28 @@ fn encrypt_block(held: &Instance, m: u16, key: &[u64], block: &mut [u64]) -> Res
     Ok(())
 }
 
-fn show_block(
-    rt: &HostRuntime,
-    p: Params,
-    held: &Instance,
-    key: &[u64],
-    block: &mut [u64],
-    expected: &[u8],
-) -> io::Result<()> {
-    if let Err(fault) = encrypt_block(held, p.m, key, block) {
-        return print_refusal(rt, fault);
-    }
-    let mut computed = [0u8; 32];
-    get_bytes(block, &mut computed);
-    let length = expected.len().min(32);
-    print_line(rt, p, expected, &computed[..length])
-}
-
-// Encrypts the plaintext under a set that is in this library's numbering.
-fn show_set(rt: &HostRuntime, p: Params, words: &[u64], expected: &[u8]) -> io::Result<()> {
+// Draws the set into `words`, brings it to this library's numbering, and encrypts the plaintext under it.
+fn compute(p: Params, words: &mut [u64]) -> Result<[u8; 32], Fault> {
+    draw(p, &mut GrainSource::new(), words)?;
+    exchange_set(p, words);
     let mut held = Instance::empty();
-    if let Err(fault) = held.open(p, words) {
-        return print_refusal(rt, fault);
-    }
+    held.open(p, words)?;
     let (w, v) = (p.block_words().min(4), p.key_words().min(4));
     let mut key = [0u64; 4];
     let mut block = [0u64; 4];
     put_bytes(&mut key, &KEY);
     put_bytes(&mut block, &PLAINTEXT);
-    show_block(rt, p, &held, &key[..v], &mut block[..w], expected)
+    encrypt_block(&held, p.m, &key[..v], &mut block[..w])?;
+    let mut computed = [0u8; 32];
+    get_bytes(&block, &mut computed);
+    Ok(computed)
 }
 
 fn run_vector(rt: &HostRuntime, p: Params, expected: &[u8]) -> anyhow::Result<()> {
     let mut words = vec![in rt.alloc(); 0u64; p.prepared_words()]?;
-    let mut source = GrainSource::new();
-    match draw(p, &mut source, &mut words) {
-        Ok(_) => {
-            exchange_set(p, &mut words);
-            show_set(rt, p, &words, expected)?;
-        }
-        Err(fault) => print_refusal(rt, fault)?,
+    match compute(p, &mut words) {
+        Ok(computed) => print_line(rt, p, expected, &computed[..expected.len().min(32)])?,
+        Err(fault) => println!(rt; "{fault}")?,
     }
     Ok(())
 }

@@ -5,12 +5,11 @@ use Rattle.drawing.proofs.grain.GrainSource.new.Goals as goal
 
 pub loop-i-init : goal.loop-i-init
 unfolding shifted
-loop-i-init c = (refl, omega arith, omega arith)
+loop-i-init c = refl
 
 pub loop-i-preserved : goal.loop-i-preserved
-loop-i-preserved c =
-    (c.step-register.ensures.is ∙ ap shift c.loop-i.invariant.0 ∙ sym (shifted_more c.loop-i._i ones), c.step-register.ensures.some, c.step-register.ensures.within)
+loop-i-preserved c = c.step.ensures.moved ∙ ap shift c.loop-i.invariant ∙ sym (shifted_more c.loop-i._i ones)
 
 pub returns : goal.returns
 unfolding begun
-returns c = let e : c.loop-i._i ≡ 160 = omega arith in c.loop-i.invariant.0 ∙ ap (λ (n : ℕ). shifted n ones) e
+returns c = let e : c.loop-i._i ≡ 160 = omega arith in c.loop-i.invariant ∙ ap (λ (n : ℕ). shifted n ones) e

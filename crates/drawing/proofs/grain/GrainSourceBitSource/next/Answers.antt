@@ -5,23 +5,20 @@ use Rattle.drawing.proofs.grain.GrainSourceBitSource.next.Goals as goal
 
 pub returns-then-first-eq1 : goal.returns-then-first-eq1
 returns-then-first-eq1 c =
-    let s : ℕ = c.loop-pair.s in
-    let e : c.step-s.result ≡ shift s = c.step-s.ensures.is in
-    gave _ _ _ (sym c.loop-pair.invariant.0 ∙ pair_given c.loop-pair._pair s c.new_bit-second.result c.step-s-in-loop-pair.result c.loop-pair-test.true
-    (sym c.new_bit-first.ensures ∙ c.if-first-eq1.true)
-    (c.new_bit-second.ensures ∙ ap new_bit_of e) (c.step-s-in-loop-pair.ensures.is ∙ ap shift e))
+    let s : ℕ = c.loop-pair.ahead.register in
+    let e : c.step-first.new.self.register ≡ shift s = c.step-first.ensures.moved in
+    gave _ _ _ (sym c.loop-pair.invariant.0 ∙ pair_given c.loop-pair._pair s c.step-second.result c.step-second.new.self.register c.loop-pair-test.true
+    (sym c.step-first.ensures.bit ∙ c.if-first-eq1.true)
+    (c.step-second.ensures.bit ∙ ap new_bit_of e) (c.step-second.ensures.moved ∙ ap shift e))
 
 pub loop-pair-preserved : goal.loop-pair-preserved
 loop-pair-preserved c =
-    let s : ℕ = c.loop-pair.s in
-    let e : c.step-s.result ≡ shift s = c.step-s.ensures.is in (
-      pair_nothing c.loop-pair._pair s c.step-s-in-loop-pair.result c.loop-pair-test.true
-          (λ q. c.if-first-eq1.false (c.new_bit-first.ensures ∙ q))
-          (c.step-s-in-loop-pair.ensures.is ∙ ap shift e) ∙ c.loop-pair.invariant.0,
-      c.step-s-in-loop-pair.ensures.some,
-      c.step-s-in-loop-pair.ensures.within,
-      c.loop-pair.invariant.3,
+    let s : ℕ = c.loop-pair.ahead.register in (
+      pair_nothing c.loop-pair._pair s c.step-second.new.self.register c.loop-pair-test.true
+          (λ q. c.if-first-eq1.false (c.step-first.ensures.bit ∙ q))
+          (c.step-second.ensures.moved ∙ ap shift c.step-first.ensures.moved) ∙ c.loop-pair.invariant.0,
+      c.loop-pair.invariant.1,
     )
 
 pub returns : goal.returns
-returns c = (gave_nothing c.loop-pair._pair _ c.loop-pair.s (omega arith) c.loop-pair.invariant.0, c.loop-pair.invariant.3)
+returns c = (gave_nothing c.loop-pair._pair _ c.loop-pair.ahead.register (omega arith) c.loop-pair.invariant.0, c.loop-pair.invariant.1)
