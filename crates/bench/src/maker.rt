@@ -1,29 +1,13 @@
 // A set file with matrices that look random, about half of their bits ones. To keep layers from collapsing, each is made of rows that have ones on the
 // diagonal and zeros below, every row added to all that follow.
 use cipher::params::Params;
+use noise::Noise;
 use std::alloc::Global;
-
-// A generator of numbers that look random enough for timing: xorshift on 64 bits.
-#[derive(Drop)]
-struct Noise {
-    state: u64,
-}
-
-impl Noise {
-    fn next(&mut self) -> u64 {
-        let mut x = self.state;
-        x ^= x << 13;
-        x ^= x >> 7;
-        x ^= x << 17;
-        self.state = x;
-        x
-    }
-}
 
 // Byte `c` of a row of `bits` bits whose bits below `from` are 0 and whose bit `from` is 1.
 fn row_byte(noise: &mut Noise, c: usize, from: usize, bits: usize) -> u8 {
     let mut byte = 0u8;
-    let x = noise.next();
+    let x = noise.word();
     for t in 0..8usize {
         let j = c.saturating_mul(8).saturating_add(t);
         let on = j == from || (j > from && (x >> t) % 2 == 1);
@@ -92,9 +76,7 @@ fn push_header(file: &mut Vec<u8>, p: Params) -> anyhow::Result<()> {
 // The file of a set with these parameters.
 pub fn make_file(heap: Global, p: Params) -> anyhow::Result<Vec<u8>> {
     let mut file = Vec::new(heap);
-    let mut noise = Noise {
-        state: 88172645463325252,
-    };
+    let mut noise = Noise::new();
     let (n, k, r) = (p.n as usize, p.k as usize, (p.r % 256) as u8);
     push_header(&mut file, p)?;
     for i in 0..r {
