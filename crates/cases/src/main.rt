@@ -19,17 +19,17 @@ use drawing::tape::TapeSource;
 use drawn::answer_drawn;
 use input::read_front;
 use std::io;
-use trial::Trial;
+use trial::{FRONT_BYTES, MOST_FILE_BYTES, Trial};
 
 // How much of the input is looked at: the kind, and for the cipher a key, a block and a file.
-const MOST_BYTES: usize = 1 + 64 + 65536;
+const MOST_BYTES: usize = 1 + FRONT_BYTES + MOST_FILE_BYTES;
 
 fn print_none(rt: &HostRuntime) -> io::Result<()> {
     println!(rt; "NO 0 0")
 }
 
 fn cipher_case(rt: &HostRuntime, rest: &[u8]) -> io::Result<()> {
-    let Some((front, file)) = rest.split_at_checked(64) else {
+    let Some((front, file)) = rest.split_at_checked(FRONT_BYTES) else {
         return print_none(rt);
     };
     match Trial::of(front, file).answer() {

@@ -3,17 +3,17 @@
 #![tactic(auto)]
 
 use input::read_front;
-use trial::Trial;
+use trial::{FRONT_BYTES, MOST_FILE_BYTES, Trial};
 
 // How much of the input is looked at: a key, a block and a file.
-const MOST_BYTES: usize = 64 + 65536;
+const MOST_BYTES: usize = FRONT_BYTES + MOST_FILE_BYTES;
 
 fn main(rt: HostRuntime) -> anyhow::Result<()> {
     let mut buffer = [0u8; MOST_BYTES];
     let got = read_front(&mut rt.stdin(), &mut buffer)?;
-    let (front, rest) = buffer.split_at(64);
+    let (front, rest) = buffer.split_at(FRONT_BYTES);
     // An input that ends before its file is one with no file.
-    let file = &rest[..got.saturating_sub(64)];
+    let file = &rest[..got.saturating_sub(FRONT_BYTES)];
     match Trial::of(front, file).answer() {
         Ok(answer) => println!(rt; "{answer}")?,
         Err(fault) => println!(rt; "NO {} {}", fault.refusal, fault.place)?,

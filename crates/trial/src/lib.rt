@@ -1,9 +1,9 @@
 // One case of the cipher: a key, a block and a set file, and what the block becomes under that set in both directions.
 #![tactic(auto)]
 
-ghost use Rattle.std.specs.Prelude.{◌≡◌, length, take, drop, IfOk};
+ghost use Rattle.std.specs.Prelude.{◌≡◌, length, take, drop, IfOk, IsOk};
 ghost use Rattle.byteorder.specs.Endian.{IsRead, little_number};
-ghost use Rattle.trial.specs.Answers.{Answered};
+ghost use Rattle.trial.specs.Answers.{Answerable, Answered};
 
 use arrayvec::ArrayVec;
 use bits::refusal::Fault;
@@ -11,6 +11,11 @@ use byteorder::{ByteOrder, LittleEndian};
 use cipher::instance::Instance;
 use files::reading::read;
 use std::fmt;
+
+// The bytes of a key and a block, and how much of a file the programs look at.
+pub const FRONT_BYTES: usize = 64;
+
+pub const MOST_FILE_BYTES: usize = 65536;
 
 // The words that there are for the set.
 const SET_WORDS: usize = 8192;
@@ -57,7 +62,8 @@ impl<'a> Trial<'a> {
 
     // Reads the set, opens it, and encrypts the block and decrypts it.
     pub fn answer(&self) -> Result<Answer, Fault>
-        ensures { IfOk result (λ a. Answered self.now.file.now self.now.key self.now.block a.there.items a.back.items) }
+        ensures answer { IfOk result (λ a. Answered self.now.file.now self.now.key self.now.block a.there.items a.back.items) }
+        ensures succeeds { Answerable self.now.file.now self.now.key self.now.block → IsOk result }
     {
         let mut words = [0; SET_WORDS];
         let mut witness = [0; 4];

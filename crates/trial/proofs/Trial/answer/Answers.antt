@@ -7,8 +7,8 @@ use Rattle.cipher.specs.LowMC.{decrypt, encrypt}
 use Rattle.trial.proofs.Answering.{after, written}
 use Rattle.trial.proofs.Trial.answer.Goals as goal
 
-pub returns : goal.returns
-returns c =
+pub returns-clause-answer : goal.returns-clause-answer
+returns-clause-answer c =
     let holds : held_by c.open.new.self ≡ Some (c.in_ok-params.params, c.read.new.words) = search rules in
     let p : Params = c.in_ok-params.params in
     let ws : List ℕ = c.read.new.words in
