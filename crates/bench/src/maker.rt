@@ -1,24 +1,8 @@
 // A set file with matrices that look random, about half of their bits ones. To keep layers from collapsing, each is made of rows that have ones on the
 // diagonal and zeros below, every row added to all that follow.
 use cipher::params::Params;
+use noise::Noise;
 use std::alloc::Global;
-
-// A generator of numbers that look random enough for timing: xorshift on 64 bits.
-#[derive(Drop)]
-struct Noise {
-    state: u64,
-}
-
-impl Noise {
-    fn next(&mut self) -> u64 {
-        let mut x = self.state;
-        x ^= x << 13;
-        x ^= x >> 7;
-        x ^= x << 17;
-        self.state = x;
-        x
-    }
-}
 
 // Which matrices or vectors the rows of a record are.
 #[derive(Clone, Copy)]
@@ -49,7 +33,7 @@ struct Maker {
 impl Maker {
     // Byte `c` of a row of `bits` bits whose bits below `from` are 0 and whose bit `from` is 1.
     fn row_byte(&mut self, c: usize, from: usize, bits: usize) -> u8 {
-        let x = self.noise.next();
+        let x = self.noise.word();
         let start = c.saturating_mul(8);
         (0..8usize)
             .filter(|t| {
@@ -104,9 +88,7 @@ pub fn make_file(heap: Global, p: Params) -> anyhow::Result<Vec<u8>> {
     let mut maker = Maker {
         heap,
         file: Vec::new(heap),
-        noise: Noise {
-            state: 88172645463325252,
-        },
+        noise: Noise::new(),
     };
     let (n, k, r) = (p.n as usize, p.k as usize, (p.r % 256) as u8);
     maker.push_header(p)?;

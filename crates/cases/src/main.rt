@@ -10,59 +10,53 @@
 // What is no case gets the answer `NO 0 0`.
 #![tactic(auto)]
 
-mod blocks;
 mod drawn;
 
-use blocks::answer_block;
+use byteorder::{BigEndian, ByteOrder};
 use cipher::params::Params;
-use drawn::{answer_grain, answer_tape};
+use drawing::grain::GrainSource;
+use drawing::tape::TapeSource;
+use drawn::answer_drawn;
 use input::read_front;
 use std::io;
+use trial::{FRONT_BYTES, MOST_FILE_BYTES, Trial};
 
-// How much of the input is looked at.
-const MOST_BYTES: usize = 65601;
+// How much of the input is looked at: the kind, and for the cipher a key, a block and a file.
+const MOST_BYTES: usize = 1 + FRONT_BYTES + MOST_FILE_BYTES;
 
 fn print_none(rt: &HostRuntime) -> io::Result<()> {
     println!(rt; "NO 0 0")
 }
 
 fn cipher_case(rt: &HostRuntime, rest: &[u8]) -> io::Result<()> {
-    if rest.len() < 64 {
+    let Some((front, file)) = rest.split_at_checked(FRONT_BYTES) else {
         return print_none(rt);
+    };
+    match Trial::of(front, file).answer() {
+        Ok(answer) => println!(rt; "{answer}"),
+        Err(fault) => println!(rt; "NO {} {}", fault.refusal, fault.place),
     }
-    answer_block(rt, rest)
-}
-
-// The number of two bytes, high byte first.
-fn pair(high: u8, low: u8) -> u16 {
-    u16::from_be_bytes([high, low])
 }
 
 fn drawing_case(rt: &HostRuntime, rest: &[u8]) -> io::Result<()> {
-    if rest.len() < 11 {
+    let Some((front, source)) = rest.split_at_checked(10) else {
         return print_none(rt);
-    }
-    let params = Params {
-        n: pair(rest[0], rest[1]),
-        k: pair(rest[2], rest[3]),
-        m: pair(rest[4], rest[5]),
-        r: pair(rest[6], rest[7]),
     };
-    let room = pair(rest[8], rest[9]) as usize;
-    match rest[10] {
-        b'T' => answer_tape(rt, params, room, &rest[11..]),
-        b'G' => answer_grain(rt, params, room),
+    let mut fields = [0; 5];
+    BigEndian::read_u16_into(front, &mut fields);
+    let [n, k, m, r, room] = fields;
+    let params = Params { n, k, m, r };
+    match source {
+        [b'T', tape @ ..] => answer_drawn(rt, params, room as usize, &mut TapeSource::new(tape)),
+        [b'G', ..] => answer_drawn(rt, params, room as usize, &mut GrainSource::new()),
         _ => print_none(rt),
     }
 }
 
 fn case(rt: &HostRuntime, input: &[u8]) -> io::Result<()> {
-    if input.is_empty() {
-        return print_none(rt);
-    }
-    match input[0] {
-        b'C' => cipher_case(rt, &input[1..]),
-        b'D' => drawing_case(rt, &input[1..]),
+    match input {
+        [b'C', rest @ ..] => cipher_case(rt, rest),
+        [b'D', rest @ ..] => drawing_case(rt, rest),
         _ => print_none(rt),
     }
 }

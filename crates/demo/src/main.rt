@@ -10,42 +10,55 @@ use drawing::grain::GrainSource;
 use files::reading::read;
 use input::read_front;
 use std::io;
+use thiserror::Error;
 
 // How much of the input is looked at, and the words that there are for the set.
 const MOST_BYTES: usize = 65536;
 
 const SET_WORDS: usize = 8192;
 
-fn print_refusal(rt: &HostRuntime, fault: Fault) -> io::Result<()> {
-    let number = fault.refusal.number();
-    println!(rt; "refused: {} at {}", number, fault.place)
-}
+// A set for one sitting: small enough to be drawn at once.
+const DRAWN: Params = Params {
+    n: 24,
+    k: 24,
+    m: 5,
+    r: 4,
+};
 
-// Encrypts a block and decrypts it again; only the lowest words are shown, and there is one of each at least.
-fn show_block(rt: &HostRuntime, held: &Instance, key: &[u64], block: &mut [u64]) -> io::Result<()> {
-    let mut work = [0u64; 8];
-    println!(rt; "key {}, block {}", lowest(key), lowest(block))?;
-    if let Err(fault) = held.encrypt(key, block, &mut work) {
-        return print_refusal(rt, fault);
-    }
-    println!(rt; "encrypted: {}", lowest(block))?;
-    if let Err(fault) = held.decrypt(key, block, &mut work) {
-        return print_refusal(rt, fault);
-    }
-    println!(rt; "decrypted: {}", lowest(block))
+// What ends the steps on one set early.
+#[derive(Debug, Drop, Error)]
+enum Stop {
+    #[error("{0}")]
+    Refused(#[from] Fault),
+    #[error("{0}")]
+    Output(#[from] io::Error),
 }
 
 // The lowest word of a vector, 0 where it has none.
 fn lowest(words: &[u64]) -> u64 {
-    if words.is_empty() { 0 } else { words[0] }
+    words.first().copied().unwrap_or(0)
+}
+
+// Encrypts a block and decrypts it again; only the lowest words are shown, and there is one of each at least.
+fn show_block(
+    rt: &HostRuntime,
+    held: &Instance,
+    key: &[u64],
+    block: &mut [u64],
+) -> Result<(), Stop> {
+    let mut work = [0u64; 8];
+    println!(rt; "key {}, block {}", lowest(key), lowest(block))?;
+    held.encrypt(key, block, &mut work)?;
+    println!(rt; "encrypted: {}", lowest(block))?;
+    held.decrypt(key, block, &mut work)?;
+    println!(rt; "decrypted: {}", lowest(block))?;
+    Ok(())
 }
 
 // Opens the set and works on the block 1 under the key 1.
-fn show_opened(rt: &HostRuntime, params: Params, words: &[u64]) -> io::Result<()> {
+fn show_opened(rt: &HostRuntime, params: Params, words: &[u64]) -> Result<(), Stop> {
     let mut held = Instance::empty();
-    if let Err(fault) = held.open(params, words) {
-        return print_refusal(rt, fault);
-    }
+    held.open(params, words)?;
     println!(rt; "opened")?;
     let key = [1u64, 0, 0, 0];
     let mut block = [1u64, 0, 0, 0];
@@ -53,48 +66,44 @@ fn show_opened(rt: &HostRuntime, params: Params, words: &[u64]) -> io::Result<()
     show_block(rt, &held, &key[..v], &mut block[..w])
 }
 
-fn show_set(rt: &HostRuntime, file: &[u8]) -> io::Result<()> {
+fn show_set(rt: &HostRuntime, file: &[u8]) -> Result<(), Stop> {
     let mut words = [0u64; SET_WORDS];
     let mut witness = [0u64; 4];
-    match read(file, &mut words, &mut witness) {
-        Ok(p) => {
-            let gates = p.gates();
-            println!(rt;
-                "read: {} block bits, {} key bits, {} triples, {} rounds, {} AND gates",
-                p.n, p.k, p.m, p.r, gates
-            )?;
-            show_opened(rt, p, &words)
-        }
-        Err(fault) => print_refusal(rt, fault),
-    }
+    let p = read(file, &mut words, &mut witness)?;
+    println!(rt;
+        "read: {} block bits, {} key bits, {} triples, {} rounds, {} AND gates",
+        p.n,
+        p.k,
+        p.m,
+        p.r,
+        p.gates()
+    )?;
+    show_opened(rt, p, &words)
 }
 
-// Draws a set for one sitting: small enough to be drawn at once.
-fn show_drawn(rt: &HostRuntime) -> io::Result<()> {
-    let params = Params {
-        n: 24,
-        k: 24,
-        m: 5,
-        r: 4,
-    };
+fn show_drawn(rt: &HostRuntime) -> Result<(), Stop> {
     let mut words = [0u64; SET_WORDS];
-    let mut source = GrainSource::new();
-    match draw(params, &mut source, &mut words) {
-        Ok(taken) => {
-            println!(rt;
-                "drawn: {} block bits, {} key bits, {} triples, {} rounds, from {} bits",
-                params.n, params.k, params.m, params.r, taken
-            )?;
-            show_opened(rt, params, &words)
-        }
-        Err(fault) => print_refusal(rt, fault),
+    let taken = draw(DRAWN, &mut GrainSource::new(), &mut words)?;
+    println!(rt;
+        "drawn: {} block bits, {} key bits, {} triples, {} rounds, from {} bits",
+        DRAWN.n, DRAWN.k, DRAWN.m, DRAWN.r, taken
+    )?;
+    show_opened(rt, DRAWN, &words)
+}
+
+// A refusal is the last line on its set.
+fn close(rt: &HostRuntime, shown: Result<(), Stop>) -> io::Result<()> {
+    match shown {
+        Ok(()) => Ok(()),
+        Err(Stop::Refused(fault)) => println!(rt; "{fault}"),
+        Err(Stop::Output(error)) => Err(error),
     }
 }
 
 fn main(rt: HostRuntime) -> anyhow::Result<()> {
     let mut buffer = [0u8; MOST_BYTES];
     let got = read_front(&mut rt.stdin(), &mut buffer)?;
-    show_set(&rt, &buffer[..got])?;
-    show_drawn(&rt)?;
+    close(&rt, show_set(&rt, &buffer[..got]))?;
+    close(&rt, show_drawn(&rt))?;
     Ok(())
 }

@@ -1,13 +1,26 @@
 // A batch beside one-block calls, on any engine.
+ghost use Rattle.std.specs.Prelude.{◌≡◌, ◌+◌, ◌*◌};
+
 use crate::lent::{carried, cells, check_cleared};
 use batches::batch::{decrypt, encrypt};
 use bits::refusal::{Fault, Layer, Refusal};
+use cipher::direction::Direction;
 use cipher::instance::Instance;
 use cipher::params::Params;
 use engines::engine::{Account, Engine};
 use std::alloc::Global;
 use std::process::Abort;
 use std::test::Fail;
+
+// A batch of so many blocks, each under its own key, under the set that is held.
+#[derive(Drop)]
+pub struct Lot<'x, 's> {
+    pub held: &'x Instance<'s>,
+    pub count: usize,
+    pub blocks: &'x [u64],
+    pub keys: &'x [u64],
+    pub masks: &'x [u64],
+}
 
 // What a one-block call leaves of a block.
 fn alone(heap: Global, held: &Instance, key: &[u64], block: &[u64]) -> Result<Vec<u64>, Fail> {
@@ -17,24 +30,6 @@ fn alone(heap: Global, held: &Instance, key: &[u64], block: &[u64]) -> Result<Ve
     Ok(one)
 }
 
-// What one-block calls leave, each block under its own key.
-fn one_by_one(
-    rt: &impl Abort,
-    heap: Global,
-    held: &Instance,
-    p: Params,
-    blocks: &[u64],
-    keys: &[u64],
-) -> Result<Vec<u64>, Fail> {
-    let (w, v) = (p.block_words(), p.key_words());
-    assert!(rt; 0 < w && 0 < v);
-    let mut all = Vec::new(heap);
-    for (block, key) in blocks.chunks(w).zip(keys.chunks(v)) {
-        all.extend_from_slice(&alone(heap, held, key, block)?)?;
-    }
-    Ok(all)
-}
-
 // That the gates of one block were spent and nothing was granted.
 fn check_spent(rt: &impl Abort, before: Account, after: Account, p: Params) {
     assert_eq!(rt; after.capacity, before.capacity);
@@ -42,78 +37,117 @@ fn check_spent(rt: &impl Abort, before: Account, after: Account, p: Params) {
     assert_eq!(rt; u64::from(after.done), u64::from(before.done) + p.gates());
 }
 
-// Encrypts a batch, in two cells more than it wants, and has each lane compared. The blocks that it leaves are given back.
-fn forth<E: Engine>(
-    rt: &impl Abort,
-    heap: Global,
-    engine: &mut E,
-    held: &Instance,
-    p: Params,
-    count: usize,
-    blocks: &[u64],
-    keys: &[u64],
-    masks: &[u64],
-) -> Result<Vec<u64>, Fail> {
-    let used = 3 * p.n as usize + p.k as usize;
-    let want = one_by_one(rt, heap, held, p, blocks, keys)?;
-    let mut wires = cells(heap, engine, used + 2)?;
-    let mut changed = blocks.to_vec(heap)?;
-    let before = engine.account();
-    encrypt(engine, held, count, &mut changed, keys, masks, &mut wires)?;
-    assert_eq!(rt; &changed, &want);
-    check_cleared(rt, engine, &wires, used);
-    check_spent(rt, before, engine.account(), p);
-    Ok(changed)
+// The cells that a batch uses.
+fn used(p: Params) -> usize
+    ensures { result ≡ 3 * p.n + p.k }
+{
+    3 * p.n as usize + p.k as usize
 }
 
-// That a batch gives in each lane what a one-block call gives, clears the cells that it uses and no other, spends the gates of one block, and that
-// the other direction leads back.
-pub fn agrees<E: Engine>(
-    rt: &impl Abort,
-    heap: Global,
-    engine: &mut E,
-    held: &Instance,
-    p: Params,
-    count: usize,
-    blocks: &[u64],
-    keys: &[u64],
-    masks: &[u64],
-) -> Result<(), Fail> {
-    let used = 3 * p.n as usize + p.k as usize;
-    let mut changed = forth(rt, heap, engine, held, p, count, blocks, keys, masks)?;
-    let mut wires = cells(heap, engine, used + 2)?;
-    let before = engine.account();
-    decrypt(engine, held, count, &mut changed, keys, masks, &mut wires)?;
-    assert!(rt; changed.as_slice() == blocks);
-    check_cleared(rt, engine, &wires, used);
-    check_spent(rt, before, engine.account(), p);
-    Ok(())
-}
+impl<'x, 's> Lot<'x, 's> {
+    fn params(&self) -> Result<Params, Fail> {
+        Ok(self.held.params().ok_or("nothing is held")?)
+    }
 
-// That a batch is refused for want of gates, with so many left, and nothing has changed.
-pub fn wants_gates<E: Engine>(
-    rt: &impl Abort,
-    heap: Global,
-    engine: &mut E,
-    held: &Instance,
-    p: Params,
-    count: usize,
-    blocks: &[u64],
-    keys: &[u64],
-    masks: &[u64],
-    left: usize,
-) -> Result<(), Fail> {
-    let mut wires = cells(heap, engine, 3 * p.n as usize + p.k as usize)?;
-    let mut changed = blocks.to_vec(heap)?;
-    let seen = carried(heap, engine, &wires)?;
-    let before = engine.account();
-    let answer = encrypt(engine, held, count, &mut changed, keys, masks, &mut wires);
-    assert_eq!(rt;
-        answer,
-        Err(Fault::at(Refusal::OutOfGates, Layer::Engine, left))
-    );
-    assert!(rt; changed.as_slice() == blocks);
-    assert_eq!(rt; carried(heap, engine, &wires)?, seen);
-    assert_eq!(rt; engine.account(), before);
-    Ok(())
+    // The batch in one direction.
+    pub fn run<E: Engine>(
+        &self,
+        way: Direction,
+        engine: &mut E,
+        blocks: &mut [u64],
+        cells: &mut [E::Wire],
+    ) -> Result<(), Fault> {
+        let Lot {
+            held,
+            count,
+            keys,
+            masks,
+            ..
+        } = *self;
+        match way {
+            Direction::Encrypt => encrypt(engine, held, count, blocks, keys, masks, cells),
+            Direction::Decrypt => decrypt(engine, held, count, blocks, keys, masks, cells),
+        }
+    }
+
+    // What one-block calls leave, each block under its own key.
+    fn one_by_one(&self, rt: &impl Abort, heap: Global) -> Result<Vec<u64>, Fail> {
+        let p = self.params()?;
+        let (w, v) = (p.block_words(), p.key_words());
+        assert!(rt; 0 < w && 0 < v);
+        let mut all = Vec::new(heap);
+        for (block, key) in self.blocks.chunks(w).zip(self.keys.chunks(v)) {
+            all.extend_from_slice(&alone(heap, self.held, key, block)?)?;
+        }
+        Ok(all)
+    }
+
+    // Takes the blocks in one direction to what is wanted, in two cells more than that uses: the cells that it uses are cleared and no other, and the
+    // gates of one block are spent.
+    fn takes<E: Engine>(
+        &self,
+        rt: &impl Abort,
+        heap: Global,
+        way: Direction,
+        engine: &mut E,
+        blocks: &[u64],
+        want: &[u64],
+    ) -> Result<(), Fail> {
+        let p = self.params()?;
+        let mut wires = cells(heap, engine, used(p) + 2)?;
+        let mut changed = blocks.to_vec(heap)?;
+        let before = engine.account();
+        self.run(way, engine, &mut changed, &mut wires)?;
+        assert!(rt; changed.as_slice() == want);
+        check_cleared(rt, engine, &wires, used(p));
+        check_spent(rt, before, engine.account(), p);
+        Ok(())
+    }
+
+    // That the batch gives in each lane what a one-block call gives, and that the other direction leads back.
+    pub fn agrees<E: Engine>(
+        &self,
+        rt: &impl Abort,
+        heap: Global,
+        engine: &mut E,
+    ) -> Result<(), Fail> {
+        let there = self.one_by_one(rt, heap)?;
+        self.takes(rt, heap, Direction::Encrypt, engine, self.blocks, &there)?;
+        self.takes(rt, heap, Direction::Decrypt, engine, &there, self.blocks)
+    }
+
+    // That the batch is refused so in one direction, with so many cells, and blocks, cells and account are as before.
+    pub fn refused<E: Engine>(
+        &self,
+        rt: &impl Abort,
+        heap: Global,
+        way: Direction,
+        engine: &mut E,
+        room: usize,
+        want: Fault,
+    ) -> Result<(), Fail> {
+        let mut wires = cells(heap, engine, room)?;
+        let mut changed = self.blocks.to_vec(heap)?;
+        let seen = carried(heap, engine, &wires)?;
+        let before = engine.account();
+        let answer = self.run(way, engine, &mut changed, &mut wires);
+        assert_eq!(rt; answer, Err(want));
+        assert!(rt; changed.as_slice() == self.blocks);
+        assert_eq!(rt; carried(heap, engine, &wires)?, seen);
+        assert_eq!(rt; engine.account(), before);
+        Ok(())
+    }
+
+    // That the batch is refused for want of gates, with so many left.
+    pub fn wants_gates<E: Engine>(
+        &self,
+        rt: &impl Abort,
+        heap: Global,
+        engine: &mut E,
+        left: usize,
+    ) -> Result<(), Fail> {
+        let want = Fault::at(Refusal::OutOfGates, Layer::Engine, left);
+        let room = used(self.params()?);
+        self.refused(rt, heap, Direction::Encrypt, engine, room, want)
+    }
 }

@@ -1,14 +1,14 @@
 // Accounts: grants past the capacity, gates past the grants, and a run of batches until the gates are spent.
-use crate::agreeing::wants_gates;
+use crate::agreeing::Lot;
 use crate::lent::cells;
-use crate::noise::{Noise, deal};
-use crate::sample::{PARAMS, PREPARED};
+use crate::sample::sample;
 use batches::batch::encrypt;
 use bits::refusal::{Fault, Layer, Refusal};
 use cipher::instance::Instance;
 use engines::engine::{Account, Engine};
 use engines::share::ShareEngine;
 use engines::word::WordEngine;
+use noise::Noise;
 use std::alloc::Global;
 use std::process::Abort;
 use std::test::Fail;
@@ -26,10 +26,8 @@ fn seven(granted: u32, done: u32) -> Account {
 fn no_gate<E: Engine>(rt: &impl Abort, engine: &mut E, account: Account) {
     let x = engine.enter(6, 5);
     let y = engine.enter(3, 9);
-    match engine.gate(x, y) {
-        Ok(_) => assert!(rt; false),
-        Err(fault) => assert_eq!(rt; fault, Fault::at(Refusal::OutOfGates, Layer::Engine, 0)),
-    }
+    let none = Fault::at(Refusal::OutOfGates, Layer::Engine, 0);
+    assert_eq!(rt; engine.gate(x, y).err(), Some(none));
     assert_eq!(rt; engine.account(), account);
 }
 
@@ -67,7 +65,7 @@ fn whole_words(rt: HostRuntime) -> Result<(), Fail> {
 
 #[test]
 fn shares(rt: HostRuntime) -> Result<(), Fail> {
-    let tape = deal(rt.alloc(), &mut Noise::new(), 7)?;
+    let tape = Noise::new().triples(rt.alloc(), 7)?;
     let mut engine = ShareEngine::empty();
     engine.fill(&tape)?;
     grants(&rt, &mut engine)?;
@@ -89,49 +87,34 @@ fn accepted<E: Engine>(
 }
 
 // Three batches of 3 gates from an engine of 7: the third is refused.
-fn run<E: Engine>(
-    rt: &impl Abort,
-    heap: Global,
-    engine: &mut E,
-    held: &Instance,
-) -> Result<(), Fail> {
+fn run<E: Engine>(rt: &impl Abort, heap: Global, engine: &mut E) -> Result<(), Fail> {
+    let held = sample()?;
     engine.grant(7)?;
-    accepted(rt, heap, engine, held)?;
+    accepted(rt, heap, engine, &held)?;
     assert_eq!(rt; engine.account(), seven(7, 3));
-    accepted(rt, heap, engine, held)?;
+    accepted(rt, heap, engine, &held)?;
     assert_eq!(rt; engine.account(), seven(7, 6));
-    wants_gates(
-        rt,
-        heap,
-        engine,
-        held,
-        PARAMS,
-        2,
-        &[1, 0],
-        &[0, 7],
-        &[5; 6],
-        1,
-    )?;
+    let third = Lot {
+        held: &held,
+        count: 2,
+        blocks: &[1, 0],
+        keys: &[0, 7],
+        masks: &[5; 6],
+    };
+    third.wants_gates(rt, heap, engine, 1)?;
     assert_eq!(rt; engine.account(), seven(7, 6));
     Ok(())
 }
 
 #[test]
 fn three_batches_on_words(rt: HostRuntime) -> Result<(), Fail> {
-    let set = PREPARED;
-    let mut held = Instance::empty();
-    held.open(PARAMS, &set)?;
-    let mut engine = WordEngine::new(7);
-    run(&rt, rt.alloc(), &mut engine, &held)
+    run(&rt, rt.alloc(), &mut WordEngine::new(7))
 }
 
 #[test]
 fn three_batches_on_shares(rt: HostRuntime) -> Result<(), Fail> {
-    let set = PREPARED;
-    let mut held = Instance::empty();
-    held.open(PARAMS, &set)?;
-    let tape = deal(rt.alloc(), &mut Noise::new(), 7)?;
+    let tape = Noise::new().triples(rt.alloc(), 7)?;
     let mut engine = ShareEngine::empty();
     engine.fill(&tape)?;
-    run(&rt, rt.alloc(), &mut engine, &held)
+    run(&rt, rt.alloc(), &mut engine)
 }

@@ -1,4 +1,4 @@
-// Cells for batches, and what they carry.
+// What calls are lent: cells for batches, with what they carry, and memory for reading.
 use engines::engine::Engine;
 use std::alloc::{AllocError, Global};
 use std::process::Abort;
@@ -12,11 +12,7 @@ pub fn cells<E: Engine>(
     engine: &E,
     count: usize,
 ) -> Result<Vec<E::Wire>, AllocError> {
-    let mut wires = Vec::new(heap);
-    for _ in 0..count {
-        wires.push(engine.enter(FILL, 9))?;
-    }
-    Ok(wires)
+    (0..count).map(|_| engine.enter(FILL, 9)).collect(heap)
 }
 
 // The words that the cells carry.
@@ -25,17 +21,25 @@ pub fn carried<E: Engine>(
     engine: &E,
     cells: &[E::Wire],
 ) -> Result<Vec<u64>, AllocError> {
-    let mut words = Vec::new(heap);
-    for wire in cells {
-        words.push(engine.read(*wire))?;
-    }
-    Ok(words)
+    cells.iter().map(|wire| engine.read(*wire)).collect(heap)
 }
 
 // That the first `used` cells carry 0 and the others what they carried before.
 pub fn check_cleared<E: Engine>(rt: &impl Abort, engine: &E, cells: &[E::Wire], used: usize) {
-    for i in 0..cells.len() {
+    for (i, wire) in cells.iter().enumerate() {
         let want = if i < used { 0 } else { FILL };
-        assert_eq!(rt; engine.read(cells[i]), want);
+        assert_eq!(rt; engine.read(*wire), want);
     }
 }
+
+// Memory that reading is lent: one word more than it needs, all set to other values than it writes.
+#[derive(Clone, Copy, PartialEq, Eq, Debug)]
+pub struct Lent {
+    pub words: [u64; 14],
+    pub witness: [u64; 5],
+}
+
+pub const FRESH: Lent = Lent {
+    words: [7; 14],
+    witness: [9; 5],
+};

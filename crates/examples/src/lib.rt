@@ -16,11 +16,11 @@ mod lists;
 #[cfg(test)]
 mod matrices;
 #[cfg(test)]
-mod noise;
-#[cfg(test)]
 mod opening;
 #[cfg(test)]
 mod published;
+#[cfg(test)]
+mod random;
 #[cfg(test)]
 mod reading;
 #[cfg(test)]

@@ -1,5 +1,5 @@
 // Opening: every refusal, and that a refused instance holds what it held.
-use crate::sample::{PARAMS, PREPARED};
+use crate::sample::{PARAMS, PREPARED, opened, sample};
 use bits::refusal::{Fault, Layer, Refusal};
 use cipher::instance::Instance;
 use cipher::params::Params;
@@ -14,91 +14,53 @@ fn refuses<'x>(
     words: &'x [u64],
     want: Fault,
 ) -> Result<(), Fail> {
-    let mut held = Instance::empty();
-    assert!(rt; held.open(PARAMS, set).is_ok());
-    match held.open(params, words) {
-        Ok(()) => {
-            assert!(rt; false);
-            return Ok(());
-        }
-        Err(fault) => assert_eq!(rt; fault, want),
-    }
-    assert_eq!(rt; held.params().ok_or("nothing is held")?, PARAMS);
-    takes_one_to(rt, &held, 6);
-    Ok(())
+    let mut held = opened(PARAMS, set)?;
+    assert_eq!(rt; held.open(params, words), Err(want));
+    assert_eq!(rt; held.params(), Some(PARAMS));
+    takes_one_to(rt, &held, 6)
 }
 
 // That the set which is held takes the block 1 under the key 0 to this one.
-fn takes_one_to(rt: &impl Abort, held: &Instance, to: u64) {
+fn takes_one_to(rt: &impl Abort, held: &Instance, to: u64) -> Result<(), Fail> {
     let mut block = [1];
     let mut work = [7; 8];
-    assert!(rt; held.encrypt(&[0], &mut block, &mut work).is_ok());
+    held.encrypt(&[0], &mut block, &mut work)?;
     assert_eq!(rt; block, [to]);
+    Ok(())
 }
 
 // An instance that holds one set takes in another. A word past the set is not looked at.
-fn replaces<'x>(rt: &impl Abort, set: &'x [u64], longer: &'x [u64]) {
-    let mut held = Instance::empty();
-    assert!(rt; held.open(PARAMS, set).is_ok());
-    assert!(rt; held.open(PARAMS, longer).is_ok());
-    takes_one_to(rt, &held, 7);
-}
-
 #[test]
-fn opens_again(rt: HostRuntime) {
-    let set = PREPARED;
+fn opens_again(rt: HostRuntime) -> Result<(), Fail> {
     // the same set but for its constant, 0
     let longer = [2, 4, 1, 0, 1, 2, 4, 1, 2, 4, 4, 1, 2, 255];
-    replaces(&rt, &set, &longer);
+    let mut held = sample()?;
+    held.open(PARAMS, &longer)?;
+    takes_one_to(&rt, &held, 7)
 }
 
 #[test]
 fn limits_and_room(rt: HostRuntime) -> Result<(), Fail> {
-    let set = PREPARED;
     let low = Params {
         n: 2,
         k: 3,
         m: 1,
         r: 1,
     };
-    refuses(
-        &rt,
-        &set,
-        low,
-        &set,
-        Fault::at(Refusal::ParameterOutOfRange, Layer::Set, 0),
-    )?;
-    let short = [2, 4, 1, 1, 1, 2, 4, 1, 2, 4, 4, 1];
-    refuses(
-        &rt,
-        &set,
-        PARAMS,
-        &short,
-        Fault::at(Refusal::TooFewWords, Layer::Set, 13),
-    )
+    let limits = Fault::at(Refusal::ParameterOutOfRange, Layer::Set, 0);
+    refuses(&rt, &PREPARED, low, &PREPARED, limits)?;
+    let room = Fault::at(Refusal::TooFewWords, Layer::Set, 13);
+    refuses(&rt, &PREPARED, PARAMS, &PREPARED[..12], room)
 }
 
 #[test]
 fn stray_bits_and_inverses(rt: HostRuntime) -> Result<(), Fail> {
-    let set = PREPARED;
     let mut stray = PREPARED;
     stray[12] = 10;
-    refuses(
-        &rt,
-        &set,
-        PARAMS,
-        &stray,
-        Fault::at(Refusal::StrayBit, Layer::Set, 12),
-    )?;
+    let bit = Fault::at(Refusal::StrayBit, Layer::Set, 12);
+    refuses(&rt, &PREPARED, PARAMS, &stray, bit)?;
     let mut other = PREPARED;
-    other[10] = 1;
-    other[11] = 2;
-    other[12] = 4;
-    refuses(
-        &rt,
-        &set,
-        PARAMS,
-        &other,
-        Fault::at(Refusal::NotInverse, Layer::Set, 1),
-    )
+    other[10..].copy_from_slice(&[1, 2, 4]);
+    let inverse = Fault::at(Refusal::NotInverse, Layer::Set, 1);
+    refuses(&rt, &PREPARED, PARAMS, &other, inverse)
 }

@@ -6,15 +6,13 @@ use std::test::Fail;
 #[test]
 fn the_first(rt: HostRuntime) -> Result<(), Fail> {
     let p = published(0).ok_or("no row 0")?;
-    assert_eq!(rt;
-        p.params,
-        Params {
-            n: 256,
-            k: 80,
-            m: 49,
-            r: 12,
-        }
-    );
+    let params = Params {
+        n: 256,
+        k: 80,
+        m: 49,
+        r: 12,
+    };
+    assert_eq!(rt; p.params, params);
     assert_eq!(rt; p.gates, 1764);
     Ok(())
 }
@@ -22,15 +20,13 @@ fn the_first(rt: HostRuntime) -> Result<(), Fail> {
 #[test]
 fn the_last(rt: HostRuntime) -> Result<(), Fail> {
     let p = published(8).ok_or("no row 8")?;
-    assert_eq!(rt;
-        p.params,
-        Params {
-            n: 256,
-            k: 256,
-            m: 10,
-            r: 52,
-        }
-    );
+    let params = Params {
+        n: 256,
+        k: 256,
+        m: 10,
+        r: 52,
+    };
+    assert_eq!(rt; p.params, params);
     assert_eq!(rt; p.gates, 1560);
     Ok(())
 }

@@ -1,5 +1,11 @@
-// The sample set file: n = k = 3, one triple, one round; layer rows 2, 4, 1; constant 1; both key matrices the identity.
+// The sample set file: n = k = 3, one triple, one round; layer rows 2, 4, 1; constant 1; both key matrices the identity. And sets that are drawn.
+use bits::refusal::Fault;
+use cipher::instance::Instance;
 use cipher::params::Params;
+use drawing::drawer::draw;
+use drawing::grain::GrainSource;
+use std::alloc::Global;
+use std::test::Fail;
 
 pub const SAMPLE: [u8; 32] = [
     b'P', b'R', 0, 3, 0, 3, 1, 1, // parameters
@@ -11,7 +17,7 @@ pub const SAMPLE: [u8; 32] = [
 ];
 
 // The same set prepared: layer, constant, both key matrices, the inverse of the layer.
-pub const PREPARED: [u64; 13] = [2, 4, 1, 1, 1, 2, 4, 1, 2, 4, 4, 1, 2];
+pub static PREPARED: [u64; 13] = [2, 4, 1, 1, 1, 2, 4, 1, 2, 4, 4, 1, 2];
 
 pub const PARAMS: Params = Params {
     n: 3,
@@ -19,3 +25,22 @@ pub const PARAMS: Params = Params {
     m: 1,
     r: 1,
 };
+
+// An instance that holds a prepared set.
+pub fn opened(params: Params, set: &[u64]) -> Result<Instance<'_>, Fault> {
+    let mut held = Instance::empty();
+    held.open(params, set)?;
+    Ok(held)
+}
+
+// An instance that holds the sample set.
+pub fn sample() -> Result<Instance<'static>, Fault> {
+    opened(PARAMS, &PREPARED)
+}
+
+// A set that is drawn from the Grain source.
+pub fn drawn(heap: Global, params: Params) -> Result<Vec<u64>, Fail> {
+    let mut set = vec![in heap; 0u64; params.prepared_words()]?;
+    draw(params, &mut GrainSource::new(), &mut set)?;
+    Ok(set)
+}

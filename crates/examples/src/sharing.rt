@@ -1,90 +1,81 @@
 // Batches on shares beside one-block calls: random triples and masks, until the tape is spent.
-use crate::agreeing::{agrees, wants_gates};
-use crate::noise::{Noise, deal, vectors};
-use crate::sample::{PARAMS, PREPARED};
+use crate::random::Random;
+use crate::sample::{PARAMS, drawn, opened, sample};
 use cipher::instance::Instance;
 use cipher::params::Params;
-use drawing::drawer::draw;
-use drawing::grain::GrainSource;
 use engines::engine::Engine;
 use engines::share::ShareEngine;
+use noise::Noise;
 use std::alloc::Global;
 use std::process::Abort;
 use std::test::Fail;
 
 // One batch of random blocks there and back, under masks of its own.
-fn random_batch<E: Engine>(
+fn agrees(
     rt: &impl Abort,
     heap: Global,
     noise: &mut Noise,
-    engine: &mut E,
+    engine: &mut ShareEngine,
     held: &Instance,
-    p: Params,
+    params: Params,
     count: usize,
 ) -> Result<(), Fail> {
-    let (n, k) = (p.n as usize, p.k as usize);
-    let blocks = vectors(heap, noise, count, n)?;
-    let keys = vectors(heap, noise, count, k)?;
-    let masks = vectors(heap, noise, n + k, 64)?;
-    agrees(rt, heap, engine, held, p, count, &blocks, &keys, &masks)
+    let random = Random::new(heap, noise, params, count)?;
+    random.lot(held).agrees(rt, heap, engine)
 }
 
-// One that finds too few triples left.
-fn one_too_many<E: Engine>(
+// One of 3 blocks that finds too few triples left.
+fn wants_gates(
     rt: &impl Abort,
     heap: Global,
     noise: &mut Noise,
-    engine: &mut E,
+    engine: &mut ShareEngine,
     held: &Instance,
-    p: Params,
+    params: Params,
     left: usize,
 ) -> Result<(), Fail> {
-    let (n, k) = (p.n as usize, p.k as usize);
-    let blocks = vectors(heap, noise, 3, n)?;
-    let keys = vectors(heap, noise, 3, k)?;
-    let masks = vectors(heap, noise, n + k, 64)?;
-    wants_gates(rt, heap, engine, held, p, 3, &blocks, &keys, &masks, left)
+    let random = Random::new(heap, noise, params, 3)?;
+    random.lot(held).wants_gates(rt, heap, engine, left)
+}
+
+// An engine of so many triples: batches of so many blocks, and one that is refused.
+fn until_spent(
+    rt: &impl Abort,
+    heap: Global,
+    held: &Instance,
+    params: Params,
+    triples: u32,
+    counts: &[usize],
+    left: usize,
+) -> Result<(), Fail> {
+    let mut noise = Noise::new();
+    let tape = noise.triples(heap, triples as usize)?;
+    let mut engine = ShareEngine::empty();
+    engine.fill(&tape)?;
+    engine.grant(triples)?;
+    for count in counts {
+        agrees(rt, heap, &mut noise, &mut engine, held, params, *count)?;
+    }
+    wants_gates(rt, heap, &mut noise, &mut engine, held, params, left)
 }
 
 // The sample set: 6 of 20 triples for each batch there and back.
 #[test]
 fn the_sample_set(rt: HostRuntime) -> Result<(), Fail> {
-    let heap = rt.alloc();
-    let set = PREPARED;
-    let mut held = Instance::empty();
-    held.open(PARAMS, &set)?;
-    let mut noise = Noise::new();
-    let tape = deal(heap, &mut noise, 20)?;
-    let mut engine = ShareEngine::empty();
-    engine.fill(&tape)?;
-    engine.grant(20)?;
-    random_batch(&rt, heap, &mut noise, &mut engine, &held, PARAMS, 64)?;
-    random_batch(&rt, heap, &mut noise, &mut engine, &held, PARAMS, 17)?;
-    random_batch(&rt, heap, &mut noise, &mut engine, &held, PARAMS, 1)?;
-    one_too_many(&rt, heap, &mut noise, &mut engine, &held, PARAMS, 2)
+    let held = sample()?;
+    until_spent(&rt, rt.alloc(), &held, PARAMS, 20, &[64, 17, 1], 2)
 }
 
 // A drawn set: 120 of 250 triples for each batch there and back.
 #[test]
 fn a_drawn_set(rt: HostRuntime) -> Result<(), Fail> {
-    let heap = rt.alloc();
     let p = Params {
         n: 24,
         k: 24,
         m: 5,
         r: 4,
     };
-    let mut set = vec![in heap; 0u64; p.prepared_words()]?;
-    let mut source = GrainSource::new();
-    assert!(rt; draw(p, &mut source, &mut set).is_ok());
-    let mut held = Instance::empty();
-    held.open(p, &set)?;
-    let mut noise = Noise::new();
-    let tape = deal(heap, &mut noise, 250)?;
-    let mut engine = ShareEngine::empty();
-    engine.fill(&tape)?;
-    engine.grant(250)?;
-    random_batch(&rt, heap, &mut noise, &mut engine, &held, p, 64)?;
-    random_batch(&rt, heap, &mut noise, &mut engine, &held, p, 40)?;
-    one_too_many(&rt, heap, &mut noise, &mut engine, &held, p, 10)
+    let set = drawn(rt.alloc(), p)?;
+    let held = opened(p, &set)?;
+    until_spent(&rt, rt.alloc(), &held, p, 250, &[64, 40], 10)
 }

@@ -1,5 +1,6 @@
 // Stepping: what the reader hands out, and that a refused step moves nothing.
 use crate::sample::SAMPLE;
+use bits::refusal::{Fault, Layer, Refusal};
 use files::reader::{Mark, Reader};
 use std::process::Abort;
 use std::test::Fail;
@@ -13,38 +14,18 @@ fn check_step(
     offset: usize,
     size: usize,
 ) -> Result<(), Fail> {
-    match reader.step() {
-        Ok(Some(record)) => {
-            assert!(rt; record.mark == mark);
-            assert_eq!(rt; record.number, number);
-            assert_eq!(rt; record.offset, offset);
-            assert_eq!(rt; record.body.len(), size);
-            Ok(())
-        }
-        Ok(None) => {
-            assert!(rt; false);
-            Ok(())
-        },
-        Err(_) => {
-            assert!(rt; false);
-            Ok(())
-        },
-    }
+    let record = reader.step()?.ok_or("no record is left")?;
+    assert_eq!(rt; record.mark, mark);
+    assert_eq!(rt; record.number, number);
+    assert_eq!(rt; record.offset, offset);
+    assert_eq!(rt; record.body.len(), size);
+    Ok(())
 }
 
 // That the next step is refused so.
-fn check_stop(rt: &impl Abort, reader: &mut Reader, number: u8, place: u64) -> Result<(), Fail> {
-    match reader.step() {
-        Ok(_) => {
-            assert!(rt; false);
-            Ok(())
-        },
-        Err(fault) => {
-            assert_eq!(rt; fault.refusal.number(), number);
-            assert_eq!(rt; fault.place, place);
-            Ok(())
-        }
-    }
+fn check_stop(rt: &impl Abort, reader: &mut Reader, refusal: Refusal, place: usize) {
+    let want = Fault::at(refusal, Layer::File, place);
+    assert_eq!(rt; reader.step().err(), Some(want));
 }
 
 #[test]
@@ -56,16 +37,8 @@ fn over_the_sample_file(rt: HostRuntime) -> Result<(), Fail> {
     check_step(&rt, &mut reader, Mark::Key, 0, 21, 3)?;
     check_step(&rt, &mut reader, Mark::Key, 1, 27, 3)?;
     check_step(&rt, &mut reader, Mark::End, 0, 32, 0)?;
-    match reader.step() {
-        Ok(None) => {
-            assert!(rt; true);
-            Ok(())
-        },
-        _ => {
-            assert!(rt; false);
-            Ok(())
-        },
-    }
+    assert!(rt; reader.step()?.is_none());
+    Ok(())
 }
 
 #[test]
@@ -74,12 +47,13 @@ fn a_refused_step_moves_nothing(rt: HostRuntime) -> Result<(), Fail> {
     file[10] = 2;
     let mut reader = Reader::new(&file);
     check_step(&rt, &mut reader, Mark::Header, 0, 2, 6)?;
-    check_stop(&rt, &mut reader, 5, 10)?;
-    check_stop(&rt, &mut reader, 5, 10)?;
+    check_stop(&rt, &mut reader, Refusal::WrongNumber, 10);
+    check_stop(&rt, &mut reader, Refusal::WrongNumber, 10);
     // a step asks first that the record is whole
     let mut reader = Reader::new(&file[..13]);
     check_step(&rt, &mut reader, Mark::Header, 0, 2, 6)?;
-    check_stop(&rt, &mut reader, 3, 13)
+    check_stop(&rt, &mut reader, Refusal::Truncated, 13);
+    Ok(())
 }
 
 #[test]
@@ -92,5 +66,6 @@ fn a_byte_after_the_end_refuses_the_end(rt: HostRuntime) -> Result<(), Fail> {
     check_step(&rt, &mut reader, Mark::Constant, 1, 17, 1)?;
     check_step(&rt, &mut reader, Mark::Key, 0, 21, 3)?;
     check_step(&rt, &mut reader, Mark::Key, 1, 27, 3)?;
-    check_stop(&rt, &mut reader, 4, 32)
+    check_stop(&rt, &mut reader, Refusal::WrongMark, 32);
+    Ok(())
 }

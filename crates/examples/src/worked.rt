@@ -2,8 +2,6 @@
 ghost use Rattle.examples.specs.Worked.{WorkedExamples};
 
 // The S-box, the sample set, a set that collapses, gates and batches, shares, and the Grain generator.
-pub fn examples_stand() -> u8
+pub fn examples_stand()
     ensures { WorkedExamples }
-{
-    0
-}
+{}
