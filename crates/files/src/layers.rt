@@ -94,6 +94,7 @@ impl<'a> Layers<'a> {
         requires { 4 ≤ length witness.old }
         ensures { Checked (matrices_of (byte_width_of self.now.n) self.now.n self.now.count self.now.bytes.now) self.now.count witness.old witness.new result }
     {
+        // by number: it is the place of the refusal
         for j in 0..usize::from(self.count) {
             let mut vector = [0u64; 4];
             if let Err(Singular) = self.check_layer(j, &mut vector) {
@@ -112,6 +113,7 @@ impl<'a> Layers<'a> {
     {
         let rows = self.rows();
         let (w, piece) = (rows.width(), rows.words());
+        // by index: what is written through `chunks_exact_mut` is lost to the proof
         for j in 0..usize::from(self.count) {
             let mut vector = [0u64; 4];
             let to = j * piece;

@@ -35,7 +35,7 @@ pub struct Reader<'a> {
     file: &'a [u8],
     at: usize,
     due: Option<Mark>,
-    round: u16,
+    round: u16, // as wide as the parameter that it goes up to
     params: Params,
 }
 
@@ -103,6 +103,7 @@ fn params_at(file: &[u8], at: usize) -> Params
     requires { at + 6 ≤ length file.now }
     ensures { result ≡ params_at file.now at }
 {
+    // by index: a chunk of six bytes would want a way out where there are fewer
     Params {
         n: u16::from_be_bytes([file[at], file[at + 1]]),
         k: u16::from_be_bytes([file[at + 2], file[at + 3]]),
