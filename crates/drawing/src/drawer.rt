@@ -37,11 +37,9 @@ pub fn keeping_stands()
 {}
 
 // Bit i of a row stands i bits on, row i of a matrix i rows on, and the matrix that is kept is the first that is, of candidates one after another.
-pub fn places_stand() -> u8
+pub fn places_stand()
     ensures { Places }
-{
-    0
-}
+{}
 
 #[cfg(test)]
 mod tests {
