@@ -1,4 +1,5 @@
-// A batch: its checks, and the cipher on all its blocks at once.
+// A batch: its checks, and the cipher on all its blocks at once. What a caller lends is passed slice by slice: a struct of the slices would be built for
+// each call and taken apart by the next.
 ghost use Rattle.std.specs.Prelude.{◌≡◌, ℕ, ◌+◌, ◌*◌, ◌<◌, ◌≤◌, false, List, map, length, is_ok, Some};
 ghost use Rattle.bits.specs.Gf2.{Below, flat, rows};
 ghost use Rattle.cipher.specs.LowMC.{decrypt as deciphered, encrypt as enciphered};
@@ -184,6 +185,8 @@ pub fn run_batch<E: Engine>(
     Ok(())
 }
 
+// `run_batch` by a name for each direction, with its promise in its own words.
+//
 // Encrypts `count` blocks in place, block j under key j. It spends the gates of one block, whatever the count, and leaves the cells that it used
 // carrying 0. Refused, it leaves everything as it was and asks for no gate.
 pub fn encrypt<E: Engine>(

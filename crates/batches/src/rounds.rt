@@ -1,4 +1,5 @@
-// The rounds on wires: each lane goes through the rounds of one block.
+// The rounds on wires: each lane goes through the rounds of one block. They are not the rounds of `cipher` over another type: a gate is asked of an engine,
+// which counts it, and a product has room for sums, so that a trait for both would have each contract twice.
 ghost use Rattle.std.specs.Prelude.{◌≡◌, ℕ, ◌+◌, ◌*◌, ◌^◌, ◌<◌, ◌≤◌, map, length};
 ghost use Rattle.bits.specs.Gf2.{value};
 ghost use Rattle.bits.specs.Matrices.{rows_in};
@@ -16,7 +17,8 @@ use cipher::opened::Opened;
 use cipher::prepared::Round;
 use engines::engine::Engine;
 
-// One round: substitution, layer, round key, constant. `spare` and `sums` are changed.
+// One round: substitution, layer, round key, constant. `spare` and `sums` are changed. The wires are slices, here and below, and no struct of slices: each
+// is lent on alone, now for reading and now for writing, so that every call would take the struct apart.
 fn forward<E: Engine>(
     e: &mut E,
     round: Round<'_>,

@@ -40,6 +40,7 @@ fn sum_ways<E: Engine>(e: &E, from: &[E::Wire], b: usize, sums: &mut [E::Wire])
     ensures { (t : ℕ) → t < 2 ^ b → slice_index (map E.means sums.new) t ≡ comb (map E.means from.now) t }
 {
     sums[0] = e.enter(0, 0);
+    // `t` is a set of wires, and not the place of one.
     for t in 1..1usize << b {
         let top = t.ilog2() as usize;
         sums[t] = e.add(sums[t - (1 << top)], wire_at(e, from, top));

@@ -83,6 +83,9 @@ fn find_row(work: Matrix<'_>, c: usize) -> Option<usize>
     (c..work.height).find(|k| bit(work.row(*k), c) == 1)
 }
 
+// `work` goes with the number of its rows, here and below, and not in a struct: it is lent for writing and, as a `Matrix`, for reading in turn, so that a
+// struct would be made anew at each step.
+//
 // Makes column `c` the identity's, by row `r`, which has bit `c`; `row` is room for a row.
 fn reduce(work: &mut [u64], n: usize, c: usize, r: usize, row: &mut [u64])
     requires size { length work.old ≡ n * length row.old }

@@ -124,6 +124,7 @@ fn call(
     attempt(held, way, key, block, guard.work)
 }
 
+// A name for each direction, with its promise in its own words; the work is `call`'s.
 impl<'a> Instance<'a> {
     // Encrypts a block in place. Refused, the block stays as it was; the work words read 0 after every call.
     pub fn encrypt(&self, key: &[u64], block: &mut [u64], work: &mut [u64]) -> Result<(), Fault>

@@ -33,6 +33,7 @@ pub(crate) fn substitute(way: Direction, s: &mut [u64], m: usize)
     requires small { m < 2 ^ 32 }
     ensures { value s.new ≡ boxes way m (value s.old) }
 {
+    // By number: a triple is no part of the slice.
     for t in 0..m {
         let p = 3 * t;
         let (first, second, third) = change(way, bit(s, p), bit(s, p + 1), bit(s, p + 2));

@@ -13,6 +13,7 @@ fn add_bit(vector: &mut [u64], j: usize, b: u64) {
 
 // Exchanges the outer bits of each of the `m` triples.
 pub(crate) fn exchange_bits(vector: &mut [u64], m: u16) {
+    // By number: a triple is three bits, and may straddle two words.
     for t in 0..m {
         let first = 3 * t as usize;
         let differ = bit(vector, first) ^ bit(vector, first + 2);
