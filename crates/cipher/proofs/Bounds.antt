@@ -1,11 +1,9 @@
 -- The sizes of a set within the limits: few enough words for a place to be a `usize`, and each round's parts within them.
-use Rattle.std.proofs.Common.{◌≡◌, ℕ, ◌+◌, ◌*◌, ◌<◌, ◌≤◌, sym, subst, mul-le-mul, arith}
+use Rattle.std.proofs.Common.{ℕ, ◌+◌, ◌*◌, ◌<◌, ◌≤◌, mul-le-mul, arith}
 use Rattle.bits.proofs.Vectors.{row_ends}
 use Rattle.cipher.specs.declared.params.Params.{Params}
-use Rattle.cipher.specs.declared.places.Places.{Places}
 use Rattle.cipher.specs.Parameters.{Lawful, block_words_of, key_words_of, layer_words, prepared_words_of}
 use Rattle.cipher.specs.Instances.{constants_place, inverses_place, keys_place}
-use Rattle.cipher.specs.Places.{places_of}
 
 pub record Small (p : Params) : Type 0 where
   pub block : block_words_of p ≤ 4
@@ -59,21 +57,3 @@ placed p l i h =
     let b = s.constants in
     let c = s.keys in
     record { layer = omega arith; constant = omega arith; first = omega arith; key = omega arith; inverse = omega arith; all = omega arith }
-
--- the parts of round i, at the widths that a call has
-pub record Roomy (p : Params) (at : Places) (w v len : ℕ) : Type 0 where
-  pub layer : at.layer + p.n * w ≤ len
-  pub constant : at.constant + w ≤ len
-  pub key : at.key + p.n * v ≤ len
-  pub inverse : at.inverse + p.n * w ≤ len
-  pub wide : p.n ≤ 64 * w
-
-pub roomy : (p : Params) → Lawful p → (i : ℕ) → i < p.r → (at : Places) (w v len : ℕ) → at ≡ places_of p i → w ≡ block_words_of p → v ≡ key_words_of p → prepared_words_of p ≤ len
-    → Roomy p at w v len
-roomy p l i h at w v len ea ew ev room =
-    let s : Small p = small p l in
-    let f : Placed p i = placed p l i h in
-    let here : Roomy p (places_of p i) (block_words_of p) (key_words_of p) len =
-    record { layer = omega (arith, f.layer); constant = omega (arith, f.constant); key = omega (arith, f.key); inverse = omega (arith, f.inverse); wide = s.wide } in
-    subst (λ (x : ℕ). Roomy p at x v len) (sym ew) (subst (λ (x : ℕ). Roomy p at (block_words_of p) x len) (sym ev)
-    (subst (λ (x : Places). Roomy p x (block_words_of p) (key_words_of p) len) (sym ea) here))

@@ -1,5 +1,5 @@
 -- A call on one block: what its checks tell, and that the other direction leads back.
-use Rattle.std.proofs.Common.{◌≡◌, ℕ, ◌*◌, ◌^◌, ◌<◌, ◌≤◌, Bool, true, false, List, [], ◌∷◌, length, Some, None, Ok, Err, Result, sym, refl, ap, ◌∙◌, subst, arith, pow_mono}
+use Rattle.std.proofs.Common.{◌≡◌, ℕ, ◌*◌, ◌^◌, ◌<◌, ◌≤◌, Bool, true, false, List, [], ◌∷◌, length, Some, Ok, Err, Result, sym, refl, ap, ◌∙◌, subst, arith, pow_mono}
 use Rattle.std.proofs.lemmas.List.{take_all}
 use Rattle.std.proofs.lemmas.Bool.{eqb-true, ltb-false, not-false}
 use Rattle.bits.specs.declared.refusal.Fault.{Fault}
@@ -95,12 +95,3 @@ module _ (h : Held) (p : Params) (ws : List ℕ) (is : h ≡ Some (p, ws)) where
   back_held way key block after t b e =
       subst (λ (x : Held). LeadsBack (against way) x (Ok tt) key block after) (sym is)
       (ap (against way (set_in p ws) (value key)) (ap value e ∙ left_value way p ws t (value key) (value block) b) ∙ against_along way p ws t (value key) (value block) b)
-
--- a call that is refused leaves the block
-pub block_refused : (f : Set → ℕ → ℕ → ℕ) (h : Held) (key block : List ℕ) (r : Result Unit Fault) (e : Fault) → r ≡ Err e → block ≡ block_after f h r key block
-block_refused f None key block r e is = refl
-block_refused f (Some (p, ws)) key block r e is = sym (ap (λ (x : Result Unit Fault). block_after f (Some (p, ws)) x key block) is)
-
-pub back_refused : (g : Set → ℕ → ℕ → ℕ) (h : Held) (key block after : List ℕ) (r : Result Unit Fault) (e : Fault) → r ≡ Err e → LeadsBack g h r key block after
-back_refused g None key block after r e is = tt
-back_refused g (Some (p, ws)) key block after r e is = subst (λ (x : Result Unit Fault). LeadsBack g (Some (p, ws)) x key block after) (sym is) tt

@@ -16,10 +16,9 @@ use Rattle.cipher.specs.Parameters.{Lawful, block_words_of, key_words_of, prepar
 use Rattle.cipher.specs.Sets.{Each, LawfulSet, Matrix}
 use Rattle.cipher.specs.Laws.{Invertible}
 use Rattle.cipher.specs.Instances.{constants_place, first_stray_of, first_wrong_of, inverses_place, inverses_in, keys_place, matrices_in, opening, same, set_in, stray_at, times, units, word_limits, wrong_at}
-use Rattle.std.specs.Option.{option_map}
 use Rattle.cipher.specs.declared.opened.Opened.{Opened}
 use Rattle.cipher.specs.Held.{held_in}
-use Rattle.cipher.specs.Sound.{Sound, TrueInverses, params_in}
+use Rattle.cipher.specs.Sound.{Sound, TrueInverses}
 use Rattle.cipher.proofs.Bounds.{small}
 use Rattle.cipher.proofs.Limits.{limits_facts}
 use Rattle.cipher.proofs.Passes.{length_matrices}
@@ -155,10 +154,6 @@ opening_sound p ws e =
     true_inverses p ws (limits_facts p a.1) (ltb-false (length ws) (prepared_words_of p) (one_check _ _ b.1)) (no_stray _ _ c.1) (none_wrong _ c.2)
 
 -- ---- an instance
-
-pub params_held : (o : Option Opened) → option_map (λ (x : Opened). x.set.params) o ≡ params_in (held_in o)
-params_held None = refl
-params_held (Some x) = refl
 
 pub sound_held : (o : Option Opened) → Sound (held_in o)
 sound_held None = tt

@@ -10,7 +10,7 @@ pub mod opened;
 pub mod opening;
 pub mod params;
 pub mod parts;
-pub mod places;
+mod places;
 pub mod prepared;
 pub mod published;
 mod round;

@@ -1,5 +1,5 @@
 // The rounds on a state, with a set that stands in words. Loops go by words and rows: nothing branches or indexes on what a key or a state holds.
-ghost use Rattle.std.specs.Prelude.{◌≡◌, ◌*◌, ◌^◌, ◌<◌, ◌≤◌, map, length};
+ghost use Rattle.std.specs.Prelude.{◌≡◌, ◌*◌, ◌≤◌, map, length};
 ghost use Rattle.bits.specs.Gf2.{inverse_of, value};
 ghost use Rattle.bits.specs.Matrices.{rows_in};
 ghost use Rattle.cipher.specs.Parameters.{block_words_of};
@@ -14,13 +14,12 @@ use bits::matrix::product;
 use bits::words::add;
 
 // One round: substitution, layer, constant, round key. `spare` is changed.
-fn forward(round: Round<'_>, m: usize, key: &[u64], state: &mut [u64], spare: &mut [u64])
+fn forward(round: Round<'_>, m: u16, key: &[u64], state: &mut [u64], spare: &mut [u64])
     requires same { length spare.old ≡ length state.old }
     requires constant { length round.constant.now ≡ length state.old }
     requires layer { round.layer.height ≤ 64 * length state.old }
     requires keyed { round.key.height ≤ 64 * length state.old }
     requires triples { 3 * m ≤ 64 * length state.old }
-    requires small { m < 2 ^ 32 }
     ensures { value state.new ≡ rounded m (value key.now) (rows_in round.entry.layer) (value round.entry.constant.now) (rows_in round.entry.key) (value state.old) }
 {
     substitute(Direction::Encrypt, state, m);
@@ -31,13 +30,12 @@ fn forward(round: Round<'_>, m: usize, key: &[u64], state: &mut [u64], spare: &m
 }
 
 // Undoes a round, by the matrix that stands at its inverse's place. `spare` is changed.
-fn backward(round: Round<'_>, m: usize, key: &[u64], state: &mut [u64], spare: &mut [u64])
+fn backward(round: Round<'_>, m: u16, key: &[u64], state: &mut [u64], spare: &mut [u64])
     requires same { length spare.old ≡ length state.old }
     requires constant { length round.constant.now ≡ length state.old }
     requires inverse { round.inverse.height ≤ 64 * length state.old }
     requires keyed { round.key.height ≤ 64 * length state.old }
     requires triples { 3 * m ≤ 64 * length state.old }
-    requires small { m < 2 ^ 32 }
     ensures { value state.new ≡ unround_by m (value key.now) (rows_in round.entry.inverse) (value round.entry.constant.now) (rows_in round.entry.key) (value state.old) }
 {
     product(round.key, key, spare);
@@ -54,7 +52,7 @@ pub(crate) fn encrypt_state(set: Prepared<'_>, key: &[u64], state: &mut [u64], s
     requires same { length spare.old ≡ block_words_of set.params }
     ensures { value state.new ≡ enciphered (set_in set.entry.params set.entry.words.now) (value key.now) (value state.old) }
 {
-    let m = set.params.m as usize;
+    let m = set.params.m;
     product(set.first_key(), key, spare);
     add(state, spare);
     for i in 0..set.params.r as usize {
@@ -69,7 +67,7 @@ pub(crate) fn decrypt_state(set: Prepared<'_>, key: &[u64], state: &mut [u64], s
     requires same { length spare.old ≡ block_words_of set.params }
     ensures { value state.new ≡ deciphered (set_in set.entry.params set.entry.words.now) (value key.now) (value state.old) }
 {
-    let m = set.params.m as usize;
+    let m = set.params.m;
     let r = set.params.r as usize;
     for i in 0..r {
         backward(set.round(r - 1 - i), m, key, state, spare);

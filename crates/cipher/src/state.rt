@@ -28,13 +28,12 @@ fn change(way: Direction, a: u64, b: u64, c: u64) -> (u64, u64, u64)
 }
 
 // The substitution of the `m` lowest triples, or its inverse. A triple may straddle two words, so it is read and changed bit by bit.
-pub(crate) fn substitute(way: Direction, s: &mut [u64], m: usize)
-    requires fits { 3 * m ≤ 64 * length s.old }
-    requires small { m < 2 ^ 32 }
+pub(crate) fn substitute(way: Direction, s: &mut [u64], m: u16)
+    requires { 3 * m ≤ 64 * length s.old }
     ensures { value s.new ≡ boxes way m (value s.old) }
 {
     // By number: a triple is no part of the slice.
-    for t in 0..m {
+    for t in 0..m as usize {
         let p = 3 * t;
         let (first, second, third) = change(way, bit(s, p), bit(s, p + 1), bit(s, p + 2));
         flip(s, p, first);
