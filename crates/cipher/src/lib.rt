@@ -10,7 +10,7 @@ pub mod opened;
 pub mod opening;
 pub mod params;
 pub mod parts;
-mod places;
+pub mod places;
 pub mod prepared;
 pub mod published;
 mod round;

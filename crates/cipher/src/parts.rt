@@ -7,6 +7,7 @@ ghost use Rattle.cipher.specs.Places.{matrix_at};
 ghost use Rattle.cipher.specs.Parts.{PartsOf};
 
 use crate::params::Params;
+use crate::places::{at_round, keys_from};
 use crate::prepared::{Prepared, Round};
 use bits::matrix::Matrix;
 
@@ -34,7 +35,7 @@ impl<'a> Prepared<'a> {
         ensures rows { rows_in result ≡ matrix_at (key_words_of self.entry.params) self.entry.params.n (keys_place self.entry.params) self.entry.words.now }
         ensures shape { (result.width ≡ key_words_of self.entry.params) × (result.height ≡ self.entry.params.n) }
     {
-        self.matrix_at(self.keys_from(), self.params.key_words())
+        self.matrix_at(keys_from(self.params), self.params.key_words())
     }
 
     // What round `i`, from 0, uses.
@@ -42,7 +43,7 @@ impl<'a> Prepared<'a> {
         requires { i < self.params.r }
         ensures { PartsOf self.entry.params self.entry.words.now i result }
     {
-        let at = self.places(i);
+        let at = at_round(self.params, i);
         let w = self.params.block_words();
         Round {
             layer: self.matrix_at(at.layer, w),

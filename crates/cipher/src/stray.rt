@@ -2,6 +2,7 @@
 ghost use Rattle.std.specs.Prelude.{◌≡◌, ◌+◌, ◌*◌, ◌^◌, ◌<◌, ◌≤◌, min, not, length, drop, nat_lt};
 ghost use Rattle.cipher.specs.Instances.{first_stray_of, many_limits, row_limits, word_limits};
 
+use crate::places::{inverses_from, keys_from};
 use crate::prepared::Prepared;
 use bits::matrix::Matrix;
 
@@ -57,8 +58,8 @@ pub(crate) fn first_in_set(set: Prepared<'_>) -> Option<usize>
     if let Some(i) = first_in_part(set, 0, w, r * n + r, n) {
         return Some(i);
     }
-    if let Some(i) = first_in_part(set, set.keys_from(), v, (r + 1) * n, k) {
+    if let Some(i) = first_in_part(set, keys_from(p), v, (r + 1) * n, k) {
         return Some(i);
     }
-    first_in_part(set, set.inverses_from(), w, r * n, n)
+    first_in_part(set, inverses_from(p), w, r * n, n)
 }
