@@ -2,7 +2,7 @@
 use cipher::params::Params;
 use drawing::drawer::draw;
 use drawing::source::BitSource;
-use std::io;
+use std::{fmt, io};
 
 // As many words are lent at most.
 const MOST_WORDS: usize = 8192;
@@ -15,11 +15,17 @@ fn print_next(rt: &HostRuntime, next: Option<u8>) -> io::Result<()> {
     }
 }
 
-fn print_words(rt: &HostRuntime, words: &[u64]) -> io::Result<()> {
-    for x in words {
-        print!(rt; " {x}")?;
+// Words, a blank before each.
+#[derive(Clone, Copy)]
+struct Words<'a>(&'a [u64]);
+
+impl fmt::Display for Words<'_> {
+    fn fmt<W: fmt::Write>(&self, f: &mut fmt::Formatter<W>) -> fmt::Result {
+        for x in self.0 {
+            write!(f, " {x}")?;
+        }
+        Ok(())
     }
-    println!(rt; "")
 }
 
 // The answer to a case: the bits taken, or the number and place of the refusal; what the source gives next; all words that were lent, each of which
@@ -37,5 +43,5 @@ pub(crate) fn answer_drawn<S: BitSource>(
         Err(fault) => print!(rt; "NO {} {}", fault.refusal, fault.place)?,
     }
     print_next(rt, source.next())?;
-    print_words(rt, lent)
+    println!(rt; "{}", Words(lent))
 }

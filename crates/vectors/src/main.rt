@@ -12,31 +12,38 @@ use cipher::params::Params;
 use drawing::drawer::draw;
 use drawing::grain::GrainSource;
 use exchange::{exchange_bits, exchange_set};
-use std::io;
+use std::{fmt, io};
 
 // The same in each vector; what is not written is 0.
 const KEY: [u8; 1] = [0x80];
 
 const PLAINTEXT: [u8; 2] = [0xab, 0xff];
 
-fn print_bytes(rt: &HostRuntime, bytes: &[u8]) -> io::Result<()> {
-    for b in bytes {
-        print!(rt; "{b:02x}")?;
+// Bytes in hexadecimal, two digits each.
+#[derive(Clone, Copy)]
+struct Hex<'a>(&'a [u8]);
+
+impl fmt::Display for Hex<'_> {
+    fn fmt<W: fmt::Write>(&self, f: &mut fmt::Formatter<W>) -> fmt::Result {
+        for b in self.0 {
+            write!(f, "{b:02x}")?;
+        }
+        Ok(())
     }
-    Ok(())
 }
 
 fn print_line(rt: &HostRuntime, p: Params, expected: &[u8], computed: &[u8]) -> io::Result<()> {
-    print!(rt; "n {} k {} m {} r {} expected ", p.n, p.k, p.m, p.r)?;
-    print_bytes(rt, expected)?;
-    print!(rt; " computed ")?;
-    print_bytes(rt, computed)?;
     let verdict = if expected == computed {
         "equal"
     } else {
         "different"
     };
-    println!(rt; " {verdict}")
+    print!(rt; "n {} k {} m {} r {} ", p.n, p.k, p.m, p.r)?;
+    println!(rt;
+        "expected {} computed {} {verdict}",
+        Hex(expected),
+        Hex(computed)
+    )
 }
 
 // Encrypts a block, which comes and goes in the numbering of the published vectors.
