@@ -10,9 +10,8 @@ use Rattle.cipher.specs.declared.params.Params.{Params}
 use Rattle.cipher.specs.declared.direction.Direction.{Direction}
 use Rattle.cipher.specs.declared.direction.Direction.TheVariants.{Encrypt, Decrypt}
 use Rattle.cipher.specs.Parameters.{block_words_of, key_words_of}
-use Rattle.cipher.specs.Sets.{Set}
 use Rattle.cipher.specs.Instances.{set_in}
-use Rattle.cipher.specs.Blocks.{Held, LeadsBack, block_after, block_checks}
+use Rattle.cipher.specs.Blocks.{Held, LeadsBack, block_checks}
 use Rattle.cipher.specs.Sound.{TrueInverses}
 use Rattle.cipher.specs.Directions.{against, along}
 use Rattle.cipher.proofs.SoundSets.{no_stray, one_check}
@@ -86,9 +85,6 @@ module _ (h : Held) (p : Params) (ws : List ℕ) (is : h ≡ Some (p, ws)) where
   pub refusal_held : (r : Result Unit Fault) (x e : Fault) (key block : List ℕ) (work : ℕ) → r ≡ Err x → x ≡ e → Err e ≡ block_checks (Some (p, ws)) key block work
       → r ≡ block_checks h key block work
   refusal_held r x e key block work a b at = answer_held r key block work (a ∙ ap Err b ∙ at)
-
-  pub block_held : (f : Set → ℕ → ℕ → ℕ) (key block after : List ℕ) → after ≡ words_of (block_words_of p) (f (set_in p ws) (value key) (value block)) → after ≡ block_after f h (Ok tt) key block
-  block_held f key block after e = e ∙ sym (ap (λ (h : Held). block_after f h (Ok tt) key block) is)
 
   pub back_held : (way : Direction) (key block after : List ℕ) → TrueInverses p ws → value block < 2 ^ p.n
       → after ≡ words_of (block_words_of p) (along way (set_in p ws) (value key) (value block)) → LeadsBack (against way) h (Ok tt) key block after

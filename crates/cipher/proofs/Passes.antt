@@ -9,7 +9,7 @@ use Rattle.cipher.specs.declared.prepared.Round.{Round}
 use Rattle.cipher.specs.Parts.{PartsOf}
 use Rattle.cipher.specs.Parameters.{block_words_of, key_words_of}
 use Rattle.cipher.specs.Instances.{constants_place, inverses_place, inverses_in, keys_place, matrices_in, set_in}
-use Rattle.cipher.specs.LowMC.{decrypt, decrypt_with, encrypt, encrypt_with, round, rounds, substitution, unround, unrounds, unsubstitution}
+use Rattle.cipher.specs.LowMC.{decrypt, decrypt_with, encrypt, encrypt_with, round, rounds, substitution, unround, unrounds}
 use Rattle.cipher.specs.Places.{constant_at, matrix_at, places_of, unround_by}
 
 -- ---- one round
@@ -17,10 +17,6 @@ use Rattle.cipher.specs.Places.{constant_at, matrix_at, places_of, unround_by}
 -- what the calls of `forward` compute
 pub forward_is : (m key s C x p q t o : ℕ) (L K : List ℕ) → x ≡ substitution m s → p ≡ mul L x → q ≡ bit_xor p C → t ≡ mul K key → o ≡ bit_xor t q → o ≡ round m key L C K s
 forward_is m key s C x p q t o L K ex ep eq et eo = eo ∙ xor_comm t q ∙ ap₂ bit_xor (eq ∙ ap (λ (y : ℕ). bit_xor y C) (ep ∙ ap (mul L) ex)) et
-
--- and those of `backward`
-pub backward_is : (m key s C t p q u o : ℕ) (M K : List ℕ) → t ≡ mul K key → p ≡ bit_xor s t → q ≡ bit_xor p C → u ≡ mul M q → o ≡ unsubstitution m u → o ≡ unround_by m key M C K s
-backward_is m key s C t p q u o M K et ep eq eu eo = eo ∙ ap (unsubstitution m) (eu ∙ ap (mul M) (eq ∙ ap (λ (y : ℕ). bit_xor y C) (ep ∙ ap (bit_xor s) et)))
 
 -- ---- matrices and rows one after another
 

@@ -13,9 +13,9 @@ use Rattle.bits.specs.Matrices.{rows_in}
 use Rattle.cipher.specs.declared.prepared.Round.{Round}
 use Rattle.cipher.specs.Parts.{PartsOf}
 use Rattle.cipher.specs.Parameters.{block_words_of}
-use Rattle.cipher.specs.Instances.{first_wrong_of, inverses_place, inverses_in, matrices_in, same, set_in, times, units}
+use Rattle.cipher.specs.Instances.{first_wrong_of, inverses_place, matrices_in, same, times, units}
 use Rattle.cipher.specs.Places.{constant_at, matrix_at, places_of}
-use Rattle.cipher.proofs.Passes.{layer_at, layers_all, layers_open, layers_left, matrices_open, next, rows_open_at}
+use Rattle.cipher.proofs.Passes.{layer_at, layers_open, layers_left, matrices_open, next, rows_open_at}
 
 -- ---- the sum of the rows that a row picks
 
@@ -83,11 +83,6 @@ module _ (w n : ℕ) (ws L : List ℕ) where
   same_not j a r all h er f inv =
       ap (λ (x : Bool). x && same (times (rows w (n - (j + 1)) (drop (a + w) ws)) L) (units (2 ^ (j + 1)) (n - (j + 1)))) (sym f ∙ er) ∙ sym (rows_same j a (a + w) h refl) ∙ inv
 
-pub same_start : (w n : ℕ) (ws L : List ℕ) → same (times (rows w (n - 0) (drop (0 * w) ws)) L) (units (2 ^ 0) (n - 0)) ≡ same (times (rows w n ws) L) (units 1 n)
-same_start w n ws L =
-    let d : n - 0 ≡ n = omega arith in
-    ap₂ (λ (k a : ℕ). same (times (rows w k (drop a ws)) L) (units 1 k)) d (zero-mul w)
-
 pub same_end : (w n j a : ℕ) (ws L : List ℕ) (all : Bool) → j ≡ n → same (times (rows w (n - j) (drop a ws)) L) (units (2 ^ j) (n - j)) ≡ all → true ≡ all
 same_end w n j a ws L all e inv =
     let z : 0 ≡ n - j = omega arith in
@@ -106,12 +101,6 @@ module _ (p : Params) (ws : List ℕ) where
   pub inverses_open : (i : ℕ) → i < p.r → inverses_left p ws i ≡ inverse_at p ws i ∷ inverses_left p ws (i + 1)
   inverses_open i h = matrices_open (block_words_of p) p.n p.r i _ _ ws h (next (inverses_place p) i (p.n * block_words_of p))
 
-  pub inverses_all : inverses_left p ws 0 ≡ inverses_in p ws
-  inverses_all =
-      let z : p.r - 0 ≡ p.r = omega arith in
-      let a : inverses_place p + 0 * (p.n * block_words_of p) ≡ inverses_place p = omega (arith, zero-mul (p.n * block_words_of p)) in
-      ap₂ (λ (k i : ℕ). matrices_in (block_words_of p) p.n k (drop i ws)) z a
-
   -- what a call for round i answers
   pub same_at : (i : ℕ) (x : Round) (r : Bool) → PartsOf p ws i x → r ≡ same (times (rows_in x.inverse) (rows_in x.layer)) (units 1 x.inverse.height)
       → r ≡ same (times (inverse_at p ws i) (layer_at p ws i)) (units 1 p.n)
@@ -124,9 +113,6 @@ module _ (p : Params) (ws : List ℕ) where
       let s : suc (i + 1) ≡ i + 1 + 1 = omega arith in
       ap₂ (λ (Ms Ls : List (List ℕ)). first_wrong_of p.n (i + 1) Ms Ls) (inverses_open i h) (layers_open p ws i h)
       ∙ ap (λ (k : ℕ). cond (same (times (inverse_at p ws i) (layer_at p ws i)) (units 1 p.n)) (first_wrong_of p.n k (inverses_left p ws (i + 1)) (layers_left p ws (i + 1))) (Some (i + 1))) s
-
-  pub wrong_start : first_wrong_of p.n (0 + 1) (inverses_left p ws 0) (layers_left p ws 0) ≡ first_wrong_of p.n 1 (inverses_in p ws) (set_in p ws).layers
-  wrong_start = ap₂ (λ (Ms Ls : List (List ℕ)). first_wrong_of p.n 1 Ms Ls) inverses_all (layers_all p ws)
 
   pub wrong_here : (i : ℕ) (r : Bool) (all : Option ℕ) → i < p.r → r ≡ same (times (inverse_at p ws i) (layer_at p ws i)) (units 1 p.n) → r ≡ false
       → first_wrong_of p.n (i + 1) (inverses_left p ws i) (layers_left p ws i) ≡ all → Some (i + 1) ≡ all

@@ -1,10 +1,9 @@
 use Rattle.std.proofs.Common.{◌≡◌, length, Some, ap}
 use Rattle.std.proofs.lemmas.Result.{err_from_is_err_and}
-use Rattle.cipher.specs.Directions.{along}
 use Rattle.cipher.specs.Held.{held_in}
 use Rattle.cipher.specs.Holds.{held_by}
 use Rattle.cipher.proofs.SoundSets.{opening_sound}
-use Rattle.cipher.proofs.Calls.{accepted, answer_held, back_held, block_held, refusal_held}
+use Rattle.cipher.proofs.Calls.{accepted, answer_held, back_held, refusal_held}
 use Rattle.cipher.proofs.block.attempt.Goals as goal
 
 pub returns-in_err-check_call-clause-answer : goal.returns-in_err-check_call-clause-answer
@@ -40,17 +39,6 @@ returns-clause-answer c =
     let h = held_by c.args.held.now in
     let is : h ≡ Some (p, ws) = ap held_in c.in-Some.is in
     answer_held h p ws is _ key block (length c.args.work.now) (c.in_ok-check_call.ensures ws)
-
-pub returns-clause-block : goal.returns-clause-block
-returns-clause-block c =
-    let o = c.in-Some.opened in
-    let p = o.set.params in
-    let ws = o.set.words.now in
-    let key = c.args.key.now in
-    let block = c.args.block.now in
-    let h = held_by c.args.held.now in
-    let is : h ≡ Some (p, ws) = ap held_in c.in-Some.is in
-    block_held h p ws is (along c.args.way) key block c.run_block.new.block c.run_block.ensures
 
 pub returns-clause-back : goal.returns-clause-back
 returns-clause-back c =

@@ -1,9 +1,6 @@
 use Rattle.std.proofs.Common.{arith}
-use Rattle.cipher.proofs.Sums.{same_at, wrong_here, wrong_more, wrong_start}
+use Rattle.cipher.proofs.Sums.{same_at, wrong_here, wrong_more}
 use Rattle.cipher.proofs.inverse.first_wrong.Goals as goal
-
-pub loop-i-init : goal.loop-i-init
-loop-i-init c = wrong_start c.args.set.params c.args.set.words.now
 
 pub returns-then-not-undoes : goal.returns-then-not-undoes
 returns-then-not-undoes c =

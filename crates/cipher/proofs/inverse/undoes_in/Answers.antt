@@ -6,7 +6,7 @@ use Rattle.cipher.specs.Places.{constant_at}
 use Rattle.cipher.proofs.Passes.{next_zero}
 use Rattle.bits.specs.Matrices.{rows_in}
 use Rattle.bits.proofs.RowLoops.{length_row_words, numbered_end, numbered_turn}
-use Rattle.cipher.proofs.Sums.{same_end, same_more, same_not, same_start}
+use Rattle.cipher.proofs.Sums.{same_end, same_more, same_not}
 use Rattle.cipher.proofs.inverse.undoes_in.Goals as goal
 
 pub loop-j-init-derived : goal.loop-j-init-derived
@@ -17,9 +17,6 @@ row_stands-requires-clause-place c =
     let m = c.args.inverse in
     let t = numbered_turn m.width m.height m.words.now c.into_iter-j-iterator.result c.loop-j.j-iterator c.next.new.self c.loop-j.yielded _ (cc) (cc) c.loop-j.yielded_by c.next.ensures.steps (c.in-Some.j, c.in-Some.row) c.in-Some.is in
     omega (arith, t.0, t.1, c.requires.tall)
-
-pub loop-j-init : goal.loop-j-init
-loop-j-init c = let m = c.args.inverse in same_start m.width m.height m.words.now (rows_in c.args.layer)
 
 pub returns-then-not-row_stands : goal.returns-then-not-row_stands
 returns-then-not-row_stands c =

@@ -1,4 +1,4 @@
-use Rattle.std.proofs.Common.{rules, zero-mul, Some, None, ◌≡◌, ◌+◌, ◌-◌, ◌*◌, ◌≤◌, length, drop, sym, ap, ap₂, ◌∙◌, subst, arith}
+use Rattle.std.proofs.Common.{rules, Some, None, ◌≡◌, ◌+◌, ◌-◌, ◌*◌, ◌≤◌, length, drop, sym, ap, ◌∙◌, subst, arith}
 use Rattle.std.proofs.lemmas.List.{length_push}
 use Rattle.cipher.specs.Instances.{first_stray_of, many_limits}
 use Rattle.cipher.proofs.Passes.{next_zero}
@@ -9,12 +9,6 @@ use Rattle.cipher.proofs.stray.first_in_rows.Goals as goal
 
 pub loop-j-init-derived : goal.loop-j-init-derived
 loop-j-init-derived c = let n = length_row_words c.rows.result.width c.rows.result.left c.rows.result.words.now in search (rules, n)
-
-pub loop-j-init : goal.loop-j-init
-loop-j-init c =
-    let m = c.args.m in
-    let d : m.height - 0 ≡ m.height = omega arith in
-    ap₂ (λ k a. first_stray_of a (many_limits m.width c.args.bits k) (drop a m.words.now)) d (zero-mul m.width)
 
 pub overflow_mul-result : goal.overflow_mul-result
 overflow_mul-result c =
