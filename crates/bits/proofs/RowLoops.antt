@@ -1,5 +1,5 @@
 -- What a loop over the rows of a matrix knows of the row that is at hand.
-use Rattle.std.proofs.Common.{◌≡◌, ℕ, zero, suc, ◌+◌, ◌*◌, ◌<◌, ◌≤◌, List, [], ◌∷◌, length, get_or, take, drop, map, sym, refl, ap, ◌∙◌, suc-mul, zero-mul, zero-add, arith, length-drop, length-take, Some, None, Option}
+use Rattle.std.proofs.Common.{◌≡◌, ℕ, zero, suc, ◌+◌, ◌*◌, ◌<◌, ◌≤◌, List, [], ◌∷◌, length, get_or, take, drop, sym, refl, ap, ◌∙◌, suc-mul, zero-mul, zero-add, arith, length-drop, length-take, Some, None, Option}
 use denote.Ref.{Bor}
 use Rattle.std.specs.declared.iter.Enumerate.{Enumerate}
 use Rattle.std.specs.Iterator.{Yields, YieldsFirstRef}
@@ -8,7 +8,7 @@ use Rattle.std.specs.List.{enumerate_from}
 use Rattle.std.proofs.lemmas.Iterator.{YieldsList}
 use Rattle.std.proofs.lemmas.Iterator.Consumers.{YieldsList-end, YieldsList-from_enumerate, YieldsList-from_first, YieldsList-turn}
 use Rattle.std.proofs.lemmas.List.{drop-drop}
-use Rattle.bits.specs.Gf2.{row_words, rows, value}
+use Rattle.bits.specs.Gf2.{row_words}
 use Rattle.bits.specs.declared.rows.Rows.{Rows}
 use Rattle.bits.proofs.Vectors.{row_ends}
 
@@ -26,11 +26,6 @@ row_words_at w (suc n) (suc k) ws d h =
 -- a row is as long as the matrix is wide
 pub row_length : (w n : ℕ) (ws : List ℕ) (k : ℕ) (row : List ℕ) → n * w ≤ length ws → k < n → row ≡ take w (drop (k * w) ws) → length row ≡ w
 row_length w n ws k row fits h is = ap length is ∙ simp (length-take, length-drop) (omega (arith, row_ends k n w h))
-
--- the rows as vectors
-pub rows_are : (w n : ℕ) (ws : List ℕ) → map value (row_words w n ws) ≡ rows w n ws
-rows_are w zero ws = refl
-rows_are w (suc n) ws = ap (λ (rs : List ℕ). value (take w ws) ∷ rs) (rows_are w n (drop w ws))
 
 numbered_at : {A : Type 0} (m k : ℕ) (xs : List A) (d : ℕ × A) → k < length xs → get_or (enumerate_from m xs) k d ≡ (m + k, get_or xs k d.1)
 numbered_at m k [] d h = absurd (omega arith)

@@ -63,7 +63,7 @@ fn case(rt: &HostRuntime, input: &[u8]) -> io::Result<()> {
 
 fn main(rt: HostRuntime) -> anyhow::Result<()> {
     let mut buffer = [0u8; MOST_BYTES];
-    let got = read_front(&mut rt.stdin(), &mut buffer)?;
-    case(&rt, &buffer[..got])?;
+    let input = read_front(&mut rt.stdin(), &mut buffer)?;
+    case(&rt, input)?;
     Ok(())
 }

@@ -102,8 +102,8 @@ fn close(rt: &HostRuntime, shown: Result<(), Stop>) -> io::Result<()> {
 
 fn main(rt: HostRuntime) -> anyhow::Result<()> {
     let mut buffer = [0u8; MOST_BYTES];
-    let got = read_front(&mut rt.stdin(), &mut buffer)?;
-    close(&rt, show_set(&rt, &buffer[..got]))?;
+    let file = read_front(&mut rt.stdin(), &mut buffer)?;
+    close(&rt, show_set(&rt, file))?;
     close(&rt, show_drawn(&rt))?;
     Ok(())
 }

@@ -6,9 +6,9 @@ ghost use Rattle.std.specs.Prelude.{◌≤◌, length, IfOk};
 use std::io;
 use std::io::Read;
 
-// Reads until the input ends or the buffer is full; the number of bytes read. What they are no contract can say.
-pub fn read_front(input: &mut impl Read, buffer: &mut [u8]) -> io::Result<usize>
-    ensures { IfOk result (λ n. n ≤ length buffer.old) }
+// Reads until the input ends or the buffer is full, and lends the front that was filled. What its bytes are no contract can say.
+pub fn read_front<'a>(input: &mut impl Read, buffer: &'a mut [u8]) -> io::Result<&'a [u8]>
+    ensures { IfOk result (λ s. length s.now ≤ length buffer.old) }
 {
     let mut filled = 0;
     // by hand: `read_exact` fails where the input ends, and `io::copy` does not say that it copies no more than fits
@@ -18,5 +18,5 @@ pub fn read_front(input: &mut impl Read, buffer: &mut [u8]) -> io::Result<usize>
             n => filled += n,
         }
     }
-    Ok(filled)
+    Ok(&buffer[..filled])
 }

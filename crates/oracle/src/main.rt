@@ -10,10 +10,11 @@ const MOST_BYTES: usize = FRONT_BYTES + MOST_FILE_BYTES;
 
 fn main(rt: HostRuntime) -> anyhow::Result<()> {
     let mut buffer = [0u8; MOST_BYTES];
-    let got = read_front(&mut rt.stdin(), &mut buffer)?;
-    let (front, rest) = buffer.split_at(FRONT_BYTES);
-    // An input that ends before its file is one with no file.
-    let file = &rest[..got.saturating_sub(FRONT_BYTES)];
+    let input = read_front(&mut rt.stdin(), &mut buffer)?;
+    // An input that ends before its file is one with no file, which is refused whatever the key and the block are.
+    let (front, file) = input
+        .split_at_checked(FRONT_BYTES)
+        .unwrap_or((&[0; FRONT_BYTES], &[]));
     match Trial::of(front, file).answer() {
         Ok(answer) => println!(rt; "{answer}")?,
         Err(fault) => println!(rt; "NO {} {}", fault.refusal, fault.place)?,

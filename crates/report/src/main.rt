@@ -6,8 +6,8 @@ use input::read_front;
 
 fn main(rt: HostRuntime) -> anyhow::Result<()> {
     let mut buffer = [0u8; MOST_BYTES];
-    let len = read_front(&mut rt.stdin(), &mut buffer)?;
-    let line = report(rt.alloc(), &buffer[..len])?;
+    let file = read_front(&mut rt.stdin(), &mut buffer)?;
+    let line = report(rt.alloc(), file)?;
     print!(rt; "{line}")?;
     Ok(())
 }
