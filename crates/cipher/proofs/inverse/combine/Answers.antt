@@ -1,4 +1,4 @@
-use Rattle.std.proofs.Common.{rules, ◌≡◌, ◌-◌, ◌*◌, ◌/◌, ◌^◌, length, drop, sym, refl, ap₂, ◌∙◌, subst, arith}
+use Rattle.std.proofs.Common.{rules, ◌≡◌, ◌-◌, ◌*◌, ◌<◌, ◌/◌, ◌^◌, length, take, drop, sym, refl, ap₂, ◌∙◌, subst, arith}
 use Rattle.std.proofs.lemmas.List.{length_push}
 use lib.Bits.{bit_xor}
 use Rattle.bits.specs.Gf2.{comb, dot, rows, value}
@@ -9,6 +9,13 @@ use Rattle.bits.proofs.RowLoops.{length_row_words, numbered_end, numbered_turn, 
 use Rattle.bits.proofs.Vectors.{value_cleared}
 use Rattle.cipher.proofs.Sums.{comb_end, comb_more, comb_start}
 use Rattle.cipher.proofs.inverse.combine.Goals as goal
+use Rattle.cipher.proofs.inverse.combine.Goals.{In-Some}
+
+-- the row of this turn
+turn : (c : In-Some) → (length c.loop-i.yielded < c.args.m.height) × (c.in-Some.i ≡ length c.loop-i.yielded) × (c.in-Some.row.now ≡ take c.args.m.width (drop (length c.loop-i.yielded * c.args.m.width) c.args.m.words.now))
+turn c =
+    let m = c.args.m in
+    numbered_turn m.width m.height m.words.now c.into_iter-i-iterator.result c.loop-i.i-iterator c.next.new.self c.loop-i.yielded _ (cc) (cc) c.loop-i.yielded_by c.next.ensures.steps (c.in-Some.i, c.in-Some.row) c.in-Some.is
 
 pub loop-i-init-derived : goal.loop-i-init-derived
 loop-i-init-derived c = let n = length_row_words c.rows.result.width c.rows.result.left c.rows.result.words.now in search (rules, n)
@@ -21,14 +28,14 @@ loop-i-init c =
 pub add_picked-requires : goal.add_picked-requires
 add_picked-requires c =
     let m = c.args.m in
-    let t = numbered_turn m.width m.height m.words.now c.into_iter-i-iterator.result c.loop-i.i-iterator c.next.new.self c.loop-i.yielded _ (cc) (cc) c.loop-i.yielded_by c.next.ensures.steps (c.in-Some.i, c.in-Some.row) c.in-Some.is in
+    let t = turn (goal.at.add_picked-requires c).In-Some in
     let size : length c.in-Some.row.now ≡ m.width = row_length m.width m.height m.words.now (length c.loop-i.yielded) c.in-Some.row.now m.fits t.0 t.2 in
     omega (arith, size, c.requires)
 
 pub loop-i-preserved : goal.loop-i-preserved
 loop-i-preserved c =
     let m = c.args.m in
-    let t = numbered_turn m.width m.height m.words.now c.into_iter-i-iterator.result c.loop-i.i-iterator c.next.new.self c.loop-i.yielded _ (cc) (cc) c.loop-i.yielded_by c.next.ensures.steps (c.in-Some.i, c.in-Some.row) c.in-Some.is in
+    let t = turn (goal.at.loop-i-preserved c).In-Some in
     let k = length c.loop-i.yielded in
     let w = m.width in
     let ws = m.words.now in

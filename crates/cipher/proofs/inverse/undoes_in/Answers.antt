@@ -1,4 +1,4 @@
-use Rattle.std.proofs.Common.{rules, eqb, ◌≡◌, ◌-◌, ◌*◌, ◌^◌, length, drop, sym, ap₂, ◌∙◌, subst, arith}
+use Rattle.std.proofs.Common.{rules, eqb, ◌≡◌, ◌-◌, ◌*◌, ◌<◌, ◌^◌, length, take, drop, sym, ap₂, ◌∙◌, subst, arith}
 use Rattle.std.proofs.lemmas.List.{length_push}
 use Rattle.bits.specs.Gf2.{comb, rows, value}
 use Rattle.cipher.specs.Instances.{same, times, units}
@@ -8,6 +8,13 @@ use Rattle.bits.specs.Matrices.{rows_in}
 use Rattle.bits.proofs.RowLoops.{length_row_words, numbered_end, numbered_turn}
 use Rattle.cipher.proofs.Sums.{same_end, same_more, same_not}
 use Rattle.cipher.proofs.inverse.undoes_in.Goals as goal
+use Rattle.cipher.proofs.inverse.undoes_in.Goals.{In-Some}
+
+-- the row of this turn
+turn : (c : In-Some) → (length c.loop-j.yielded < c.args.inverse.height) × (c.in-Some.j ≡ length c.loop-j.yielded) × (c.in-Some.row.now ≡ take c.args.inverse.width (drop (length c.loop-j.yielded * c.args.inverse.width) c.args.inverse.words.now))
+turn c =
+    let m = c.args.inverse in
+    numbered_turn m.width m.height m.words.now c.into_iter-j-iterator.result c.loop-j.j-iterator c.next.new.self c.loop-j.yielded _ (cc) (cc) c.loop-j.yielded_by c.next.ensures.steps (c.in-Some.j, c.in-Some.row) c.in-Some.is
 
 pub loop-j-init-derived : goal.loop-j-init-derived
 loop-j-init-derived c = let n = length_row_words c.rows.result.width c.rows.result.left c.rows.result.words.now in search (rules, n)
@@ -15,13 +22,13 @@ loop-j-init-derived c = let n = length_row_words c.rows.result.width c.rows.resu
 pub row_stands-requires-clause-place : goal.row_stands-requires-clause-place
 row_stands-requires-clause-place c =
     let m = c.args.inverse in
-    let t = numbered_turn m.width m.height m.words.now c.into_iter-j-iterator.result c.loop-j.j-iterator c.next.new.self c.loop-j.yielded _ (cc) (cc) c.loop-j.yielded_by c.next.ensures.steps (c.in-Some.j, c.in-Some.row) c.in-Some.is in
+    let t = turn (goal.at.row_stands-requires-clause-place c).In-Some in
     omega (arith, t.0, t.1, c.requires.tall)
 
 pub returns-then-not-row_stands : goal.returns-then-not-row_stands
 returns-then-not-row_stands c =
     let m = c.args.inverse in
-    let t = numbered_turn m.width m.height m.words.now c.into_iter-j-iterator.result c.loop-j.j-iterator c.next.new.self c.loop-j.yielded _ (cc) (cc) c.loop-j.yielded_by c.next.ensures.steps (c.in-Some.j, c.in-Some.row) c.in-Some.is in
+    let t = turn (goal.at.returns-then-not-row_stands c).In-Some in
     let k = length c.loop-j.yielded in
     let w = m.width in
     let ws = m.words.now in
@@ -32,7 +39,7 @@ returns-then-not-row_stands c =
 pub loop-j-preserved : goal.loop-j-preserved
 loop-j-preserved c =
     let m = c.args.inverse in
-    let t = numbered_turn m.width m.height m.words.now c.into_iter-j-iterator.result c.loop-j.j-iterator c.next.new.self c.loop-j.yielded _ (cc) (cc) c.loop-j.yielded_by c.next.ensures.steps (c.in-Some.j, c.in-Some.row) c.in-Some.is in
+    let t = turn (goal.at.loop-j-preserved c).In-Some in
     let k = length c.loop-j.yielded in
     let w = m.width in
     let ws = m.words.now in

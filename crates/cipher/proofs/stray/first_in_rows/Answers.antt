@@ -1,4 +1,4 @@
-use Rattle.std.proofs.Common.{rules, Some, None, ◌≡◌, ◌+◌, ◌-◌, ◌*◌, ◌≤◌, length, drop, sym, ap, ◌∙◌, subst, arith}
+use Rattle.std.proofs.Common.{rules, Some, None, ◌≡◌, ◌+◌, ◌-◌, ◌*◌, ◌<◌, ◌≤◌, length, take, drop, sym, ap, ◌∙◌, subst, arith}
 use Rattle.std.proofs.lemmas.List.{length_push}
 use Rattle.cipher.specs.Instances.{first_stray_of, many_limits}
 use Rattle.cipher.proofs.Passes.{next_zero}
@@ -6,6 +6,13 @@ use Rattle.bits.proofs.RowLoops.{length_row_words, numbered_end, numbered_turn}
 use Rattle.bits.proofs.Vectors.{row_ends}
 use Rattle.cipher.proofs.Strays.{row_inside, row_seen, rows_end, rows_here, rows_more}
 use Rattle.cipher.proofs.stray.first_in_rows.Goals as goal
+use Rattle.cipher.proofs.stray.first_in_rows.Goals.{In-Some}
+
+-- the row of this turn
+turn : (c : In-Some) → (length c.loop-j.yielded < c.args.m.height) × (c.in-Some.j ≡ length c.loop-j.yielded) × (c.in-Some.row.now ≡ take c.args.m.width (drop (length c.loop-j.yielded * c.args.m.width) c.args.m.words.now))
+turn c =
+    let m = c.args.m in
+    numbered_turn m.width m.height m.words.now c.into_iter-j-iterator.result c.loop-j.j-iterator c.next.new.self c.loop-j.yielded _ (cc) (cc) c.loop-j.yielded_by c.next.ensures.steps (c.in-Some.j, c.in-Some.row) c.in-Some.is
 
 pub loop-j-init-derived : goal.loop-j-init-derived
 loop-j-init-derived c = let n = length_row_words c.rows.result.width c.rows.result.left c.rows.result.words.now in search (rules, n)
@@ -13,7 +20,7 @@ loop-j-init-derived c = let n = length_row_words c.rows.result.width c.rows.resu
 pub overflow_mul-result : goal.overflow_mul-result
 overflow_mul-result c =
     let m = c.args.m in
-    let t = numbered_turn m.width m.height m.words.now c.into_iter-j-iterator.result c.loop-j.j-iterator c.next.new.self c.loop-j.yielded _ (cc) (cc) c.loop-j.yielded_by c.next.ensures.steps (c.in-Some.j, c.in-Some.row) c.in-Some.is in
+    let t = turn (goal.at.overflow_mul-result c).In-Some in
     let k = length c.loop-j.yielded in
     let w = m.width in
     let ws = m.words.now in
@@ -26,7 +33,7 @@ overflow_mul-result c =
 pub overflow_add-result : goal.overflow_add-result
 overflow_add-result c =
     let m = c.args.m in
-    let t = numbered_turn m.width m.height m.words.now c.into_iter-j-iterator.result c.loop-j.j-iterator c.next.new.self c.loop-j.yielded _ (cc) (cc) c.loop-j.yielded_by c.next.ensures.steps (c.in-Some.j, c.in-Some.row) c.in-Some.is in
+    let t = turn (goal.at.overflow_add-result c).In-Some in
     let k = length c.loop-j.yielded in
     let w = m.width in
     let ws = m.words.now in
@@ -39,7 +46,7 @@ overflow_add-result c =
 pub returns-in-Some-first_stray : goal.returns-in-Some-first_stray
 returns-in-Some-first_stray c =
     let m = c.args.m in
-    let t = numbered_turn m.width m.height m.words.now c.into_iter-j-iterator.result c.loop-j.j-iterator c.next.new.self c.loop-j.yielded _ (cc) (cc) c.loop-j.yielded_by c.next.ensures.steps (c.in-Some.j, c.in-Some.row) c.in-Some.is in
+    let t = turn (goal.at.returns-in-Some-first_stray c).In-Some in
     let k = length c.loop-j.yielded in
     let w = m.width in
     let ws = m.words.now in
@@ -53,7 +60,7 @@ returns-in-Some-first_stray c =
 pub loop-j-preserved : goal.loop-j-preserved
 loop-j-preserved c =
     let m = c.args.m in
-    let t = numbered_turn m.width m.height m.words.now c.into_iter-j-iterator.result c.loop-j.j-iterator c.next.new.self c.loop-j.yielded _ (cc) (cc) c.loop-j.yielded_by c.next.ensures.steps (c.in-Some.j, c.in-Some.row) c.in-Some.is in
+    let t = turn (goal.at.loop-j-preserved c).In-Some in
     let k = length c.loop-j.yielded in
     let w = m.width in
     let ws = m.words.now in
