@@ -14,7 +14,7 @@ fn and<E: Engine>(e: &mut E, x: E::Wire, y: E::Wire) -> E::Wire
 {
     match e.gate(x, y) {
         Ok(w) => w,
-        Err(_) => unreachable(),
+        Err(_) => unreachable!(),
     }
 }
 

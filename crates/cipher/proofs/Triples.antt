@@ -1,4 +1,4 @@
--- The steps of `flip`, `substitute` and `unsubstitute`.
+-- The steps of `flip` and `substitute`.
 use Rattle.std.proofs.Common.{◌≡◌, ℕ, zero, suc, ◌+◌, ◌*◌, ◌/◌, ◌%◌, ◌^◌, ◌<◌, List, length, get_or, set, sym, refl, ap, ◌∙◌, subst, ap₂, add-zero, mul_assoc, mul_comm, zero-add, mul-one, div-one, mul_left_comm, add-one, arith, pow_pos, pow-add, shr-shr}
 use lib.Pow.{field}
 use lib.Bits.{bit_and, bit_xor, and_lt, xor_assoc, xor_block, xor_lt, xor_self, xor_zero_r}

@@ -8,9 +8,10 @@ use Rattle.cipher.specs.Laws.{Invertible}
 use Rattle.cipher.specs.Blocks.{block_checks}
 use Rattle.files.specs.Format.{file_of}
 
--- the file is that of a set, under which the block is encrypted and decrypted; of the key and the block the words count that the set's have
+-- the file is that of a lawful set, under which the block is encrypted and decrypted; of the key and the block the words count that the set's have
 pub record Answered (file key block there back : List ℕ) : Type 0 where
   pub set : Set
+  pub lawful : LawfulSet set
   pub laid_out : file_of set ≡ file
   pub encrypted : there
       ≡ words_of (block_words_of set.params) (encrypt set (value (take (key_words_of set.params) key)) (value (take (block_words_of set.params) block)))
