@@ -9,11 +9,6 @@ use Rattle.cipher.specs.Laws.{Invertible}
 use Rattle.cipher.specs.Instances.{inverses_in, opening, set_in}
 use Rattle.cipher.specs.Blocks.{Held}
 
--- parameters that may be missing, and words
-abbrev pub held_of : Option Params → List ℕ → Held
-held_of None ws = None
-held_of (Some p) ws = Some (p, ws)
-
 -- what is held passed the checks
 abbrev pub passes : Held → Bool
 passes None = true
