@@ -23,7 +23,7 @@ impl fmt::Display for Singular {
 
 impl Error for Singular {}
 
-// Adds `on` times the vector `b` to `a`, for `on` 0 or 1.
+// Adds `on` times the vector `b` to `a`, for `on` 0 or 1: a digit and no bool, since the clause multiplies by it.
 fn add_times(a: &mut [u64], b: &[u64], on: u64)
     requires size { length a.old ≡ length b.now }
     requires digit { on < 2 }
@@ -69,6 +69,7 @@ fn augment(layer: Matrix<'_>, work: &mut [u64])
     requires fits { layer.height ≤ 64 * layer.width }
     ensures { (k : ℕ) → k < layer.entry.height → row_at (2 * layer.entry.width) work.new k ≡ row_at layer.entry.width layer.entry.words.now k + 2 ^ (64 * layer.entry.width) * 2 ^ k }
 {
+    // Here and in `write_out` the rows that are written go by index: what is written through `chunks_exact_mut` is lost to the proof.
     for (i, row) in layer.rows().enumerate() {
         let width = 2 * row.len();
         let start = i * width;

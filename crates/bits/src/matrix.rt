@@ -49,6 +49,7 @@ fn independent_in(m: &mut [u64], count: usize, w: usize) -> bool
     ensures sound { result ≡ true → Independent (rows w count m.old) }
     ensures complete { Independent (rows w count m.old) → result ≡ true }
 {
+    // The rows below are counted, since rows of no words do not say how many they are.
     let mut rest = m;
     for i in 0..count {
         let (row, below) = rest.split_at_mut(w);

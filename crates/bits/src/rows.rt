@@ -57,6 +57,7 @@ impl<'a> Matrix<'a> {
     }
 }
 
+// Not `chunks_exact`: that refuses rows of no words, which no contract here excludes.
 impl<'a> Iterator for Rows<'a> {
     type Item = &'a [u64];
 

@@ -54,6 +54,7 @@ pub fn add(a: &mut [u64], b: &[u64])
     ensures { value a.new ≡ bit_xor (value a.old) (value b.now) }
 {
     fitting(a);
+    // By index in `b`: what is written through a `zip` with `iter_mut` is lost to the proof.
     for (i, x) in a.iter_mut().enumerate() {
         *x ^= b[i];
     }
