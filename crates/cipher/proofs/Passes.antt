@@ -150,28 +150,23 @@ module _ (p : Params) (ws : List ℕ) where
       ∙ ap (λ (Ms : List (List ℕ)). get_or Ms i []) e ∙ get_or-map inverse_of (set_in p ws).layers i [] [] l
       ∙ ap inverse_of (matrices_at w p.n p.r i ws h)
 
-  -- the step of `decrypt_state`, which has i rounds behind it
-  pub unrounds_more : (i m key s t u : ℕ) → i < p.r → inverses_in p ws ≡ map inverse_of (set_in p ws).layers
-      → t ≡ unround_by m key (matrix_at (block_words_of p) p.n (places_of p (p.r - 1 - i)).inverse ws) (constant_of p ws (p.r - 1 - i)) (key_at p ws (p.r - 1 - i)) s
-      → s ≡ unrounds m key (layers_left p ws (p.r - i)) (constants_left p ws (p.r - i)) (keys_left p ws (p.r - i)) u
-      → t ≡ unrounds m key (layers_left p ws (p.r - (i + 1))) (constants_left p ws (p.r - (i + 1))) (keys_left p ws (p.r - (i + 1))) u
-  unrounds_more i m key s t u h true e inv =
-      let j : ℕ = p.r - 1 - i in
-      let l : j < p.r = omega arith in
-      let here : p.r - (i + 1) ≡ j = omega arith in
-      let past : p.r - i ≡ j + 1 = omega arith in
+  -- the step of `decrypt_state`, which undoes round j
+  pub unrounds_more : (i j m key s t u : ℕ) → i ≡ j + 1 → j < p.r → inverses_in p ws ≡ map inverse_of (set_in p ws).layers
+      → t ≡ unround_by m key (matrix_at (block_words_of p) p.n (places_of p j).inverse ws) (constant_of p ws j) (key_at p ws j) s
+      → s ≡ unrounds m key (layers_left p ws i) (constants_left p ws i) (keys_left p ws i) u
+      → t ≡ unrounds m key (layers_left p ws j) (constants_left p ws j) (keys_left p ws j) u
+  unrounds_more i j m key s t u past l true e inv =
       let all : ℕ → ℕ = λ k. unrounds m key (layers_left p ws k) (constants_left p ws k) (keys_left p ws k) u in
       e ∙ ap (λ (M : List ℕ). unround_by m key M (constant_of p ws j) (key_at p ws j) s) (inverse_at j l true)
       ∙ ap (unround m key (layer_at p ws j) (constant_of p ws j) (key_at p ws j)) (inv ∙ ap all past)
-      ∙ sym (ap all here ∙ ap₂ (λ (Ls : List (List ℕ)) (Cs : List ℕ). unrounds m key Ls Cs (keys_left p ws j) u) (layers_open j l) (constants_open j l)
+      ∙ sym (ap₂ (λ (Ls : List (List ℕ)) (Cs : List ℕ). unrounds m key Ls Cs (keys_left p ws j) u) (layers_open j l) (constants_open j l)
       ∙ ap (λ (Ks : List (List ℕ)). unrounds m key (layer_at p ws j ∷ layers_left p ws (j + 1)) (constant_of p ws j ∷ constants_left p ws (j + 1)) Ks u) (keys_open j l))
 
-  pub decrypted : (i key s t y : ℕ) → i ≡ p.r
-      → s ≡ unrounds p.m key (layers_left p ws (p.r - i)) (constants_left p ws (p.r - i)) (keys_left p ws (p.r - i)) y
+  pub decrypted : (i key s t y : ℕ) → i ≡ 0
+      → s ≡ unrounds p.m key (layers_left p ws i) (constants_left p ws i) (keys_left p ws i) y
       → t ≡ bit_xor s (mul (matrix_at (key_words_of p) p.n (keys_place p) ws) key)
       → t ≡ decrypt (set_in p ws) key y
-  decrypted i key s t y h inv e =
-      let z : p.r - i ≡ 0 = omega arith in
+  decrypted i key s t y z inv e =
       let K : List ℕ = matrix_at (key_words_of p) p.n (keys_place p) ws in
       e ∙ ap (λ (x : ℕ). bit_xor x (mul K key)) (inv ∙ ap (λ (k : ℕ). unrounds p.m key (layers_left p ws k) (constants_left p ws k) (keys_left p ws k) y) z
       ∙ ap₂ (λ (Ls : List (List ℕ)) (Cs : List ℕ). unrounds p.m key Ls Cs (keys_left p ws 0) y) layers_all constants_all)

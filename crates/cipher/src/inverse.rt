@@ -58,6 +58,7 @@ fn undoes_in(inverse: Matrix<'_>, layer: Matrix<'_>, sum: &mut [u64]) -> bool
     requires small { layer.width ≤ 4 }
     ensures { result ≡ same (times (rows_in inverse.entry) (rows_in layer.entry)) (units 1 inverse.entry.height) }
 {
+    // A loop and not `all`: a closure would hold `sum` for writing.
     for (j, row) in inverse.rows().enumerate() {
         if !row_stands(layer, row, j, sum) {
             return false;
@@ -80,6 +81,7 @@ fn undoes(inverse: Matrix<'_>, layer: Matrix<'_>) -> bool
 pub(crate) fn first_wrong(set: Prepared<'_>) -> Option<usize>
     ensures { result ≡ first_wrong_of set.entry.params.n 1 (inverses_in set.entry.params set.entry.words.now) (set_in set.entry.params set.entry.words.now).layers }
 {
+    // A loop and not `find`, as the clause goes on from round to round; a `find` says only where it stops.
     for i in 0..set.params.r as usize {
         let round = set.round(i);
         if !undoes(round.inverse, round.layer) {

@@ -1,5 +1,5 @@
 // Where the parts of a prepared set stand in its words: all layers, all constants, all key matrices, all inverses. Leaves for the crates above, which
-// know the set to be within the limits; not calls for users.
+// know the set to be within the limits; not calls for users. They take parameters and no set, so that who has no words yet can ask too.
 ghost use Rattle.std.specs.Prelude.{◌≡◌, ◌+◌, ◌*◌, ◌<◌};
 ghost use Rattle.cipher.specs.Parameters.{Lawful};
 ghost use Rattle.cipher.specs.Instances.{inverses_place, keys_place};

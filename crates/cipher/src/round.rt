@@ -1,4 +1,5 @@
 // The rounds on a state, with a set that stands in words. Loops go by words and rows: nothing branches or indexes on what a key or a state holds.
+// That `state` and `spare` are of one length each function asks for itself: they are lent on one by one, and every call would take a struct apart.
 ghost use Rattle.std.specs.Prelude.{◌≡◌, ◌*◌, ◌≤◌, map, length};
 ghost use Rattle.bits.specs.Gf2.{inverse_of, value};
 ghost use Rattle.bits.specs.Matrices.{rows_in};
@@ -68,9 +69,8 @@ pub(crate) fn decrypt_state(set: Prepared<'_>, key: &[u64], state: &mut [u64], s
     ensures { value state.new ≡ deciphered (set_in set.entry.params set.entry.words.now) (value key.now) (value state.old) }
 {
     let m = set.params.m;
-    let r = set.params.r as usize;
-    for i in 0..r {
-        backward(set.round(r - 1 - i), m, key, state, spare);
+    for i in (0..set.params.r as usize).rev() {
+        backward(set.round(i), m, key, state, spare);
     }
     product(set.first_key(), key, spare);
     add(state, spare);

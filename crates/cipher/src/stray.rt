@@ -31,6 +31,7 @@ pub fn first_stray(words: &[u64], bits: usize) -> Option<usize>
 pub fn first_in_rows(m: Matrix<'_>, bits: usize) -> Option<usize>
     ensures { result ≡ first_stray_of 0 (many_limits m.entry.width bits m.entry.height) m.entry.words.now }
 {
+    // A loop and not `find_map`, as the clause goes on from row to row.
     for (j, row) in m.rows().enumerate() {
         if let Some(i) = first_stray(row, bits) {
             return Some(j * m.width + i);

@@ -10,8 +10,9 @@ loop-i-preserved c =
     let ws = c.args.set.words.now in
     let key = value c.args.key.now in
     let s = value c.loop-i.state in
-    unrounds_more p ws c.loop-i.i p.m key s (value c.backward.new.state) _ (omega arith) c.requires.inverses
-    (unround_at p ws (p.r - 1 - c.loop-i.i) c.round.result c.round.ensures p.m key s (value c.backward.new.state) c.backward.ensures) c.loop-i.invariant
+    let i = c.loop-i.i - 1 in
+    unrounds_more p ws c.loop-i.i i p.m key s (value c.backward.new.state) _ (omega arith) (omega arith) c.requires.inverses
+    (unround_at p ws i c.round.result c.round.ensures p.m key s (value c.backward.new.state) c.backward.ensures) c.loop-i.invariant
 
 pub returns : goal.returns
 returns c =
