@@ -1,5 +1,5 @@
 -- A call on one block: what its checks tell, and that the other direction leads back.
-use Rattle.std.proofs.Common.{◌≡◌, ℕ, ◌*◌, ◌^◌, ◌<◌, ◌≤◌, Bool, true, false, List, [], ◌∷◌, length, Some, Ok, Err, Result, sym, refl, ap, ◌∙◌, subst, arith, pow_mono}
+use Rattle.std.proofs.Common.{◌≡◌, ℕ, ◌^◌, ◌<◌, ◌≤◌, Bool, true, false, List, [], ◌∷◌, length, Some, Ok, Err, Result, sym, refl, ap, ◌∙◌, subst, arith, pow_mono}
 use Rattle.std.proofs.lemmas.List.{take_all}
 use Rattle.std.proofs.lemmas.Bool.{eqb-true, ltb-false, not-false}
 use Rattle.bits.specs.declared.refusal.Fault.{Fault}
@@ -14,6 +14,7 @@ use Rattle.cipher.specs.Instances.{set_in}
 use Rattle.cipher.specs.Blocks.{Held, LeadsBack, block_checks}
 use Rattle.cipher.specs.Sound.{TrueInverses}
 use Rattle.cipher.specs.Directions.{against, along}
+use Rattle.cipher.proofs.Bounds.{key_wide, wide}
 use Rattle.cipher.proofs.SoundSets.{no_stray, one_check}
 use Rattle.cipher.proofs.Rounds.{decrypt_below, decrypt_encrypt, encrypt_below, encrypt_decrypt}
 use Rattle.cipher.proofs.Strays.{row_none}
@@ -43,8 +44,6 @@ accepted p ws key block work e =
     let size : length block ≡ block_words_of p = eqb-true (length block) (block_words_of p) (not-false _ sizes.1) in
     let key_fits : key_words_of p ≤ length key = omega arith in
     let fits : block_words_of p ≤ length block = omega arith in
-    let key_wide : p.k ≤ 64 * key_words_of p = omega arith in
-    let wide : p.n ≤ 64 * block_words_of p = omega arith in
     let key-all = take_all (key_words_of p) key (omega arith) in
     let all = take_all (block_words_of p) block (omega arith) in
     let b = then_is _ _ tt a.2 in
@@ -52,8 +51,8 @@ accepted p ws key block work e =
     record {
       keyed = keyed;
       size = size;
-      key_small = subst (λ (xs : List ℕ). value xs < 2 ^ p.k) key-all (row_none 0 (key_words_of p) p.k key key_fits key_wide (no_stray _ _ b.1));
-      small = subst (λ (xs : List ℕ). value xs < 2 ^ p.n) all (row_none 0 (block_words_of p) p.n block fits wide (no_stray _ _ c.1));
+      key_small = subst (λ (xs : List ℕ). value xs < 2 ^ p.k) key-all (row_none 0 (key_words_of p) p.k key key_fits (key_wide p) (no_stray _ _ b.1));
+      small = subst (λ (xs : List ℕ). value xs < 2 ^ p.n) all (row_none 0 (block_words_of p) p.n block fits (wide p) (no_stray _ _ c.1));
       room = ltb-false work 8 (one_check _ _ c.2);
     }
 
@@ -73,8 +72,7 @@ pub left_value : (way : Direction) (p : Params) (ws : List ℕ) → TrueInverses
     → value (words_of (block_words_of p) (along way (set_in p ws) key x)) ≡ along way (set_in p ws) key x
 left_value way p ws t key x h =
     let b = along_below way p ws t key x h in
-    let wide : p.n ≤ 64 * block_words_of p = omega arith in
-    value_words_of (block_words_of p) (along way (set_in p ws) key x) (omega (arith, b, pow_mono wide))
+    value_words_of (block_words_of p) (along way (set_in p ws) key x) (omega (arith, b, pow_mono (wide p)))
 
 -- ---- by what the instance holds
 

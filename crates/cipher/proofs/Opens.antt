@@ -19,7 +19,7 @@ use Rattle.cipher.specs.Parameters.{block_words_of, key_words_of, layer_words, p
 use Rattle.cipher.specs.Sets.{Each, LawfulSet, Matrix, Set, joined, prepared}
 use Rattle.cipher.specs.Laws.{Invertible}
 use Rattle.cipher.specs.Instances.{constants_place, first_stray_of, first_wrong_of, inverses_place, inverses_in, keys_place, many_limits, matrices_in, opening, row_limits, same, set_in, stray_at, times, units, word_limits, wrong_at}
-use Rattle.cipher.proofs.Bounds.{small}
+use Rattle.cipher.proofs.Bounds.{key_wide, wide}
 use Rattle.cipher.proofs.Limits.{facts_limits}
 use Rattle.cipher.proofs.SoundSets.{units_mul}
 use Rattle.cipher.proofs.Strays.{length_many_limits, length_row_limits}
@@ -279,22 +279,22 @@ module _ (s : Set) (h : LawfulSet s) (v : Each Invertible s.layers) (rest : List
   back_layers : (set_in p ws).layers ≡ s.layers
   back_layers =
       ap (matrices_in (block_words_of p) p.n p.r) parts
-      ∙ matrices_back (block_words_of p) p.n p.n p.r s.layers (Cs ++ (Ks ++ (Ms ++ rest))) (small p h.limits).wide h.rounds h.layers
+      ∙ matrices_back (block_words_of p) p.n p.n p.r s.layers (Cs ++ (Ks ++ (Ms ++ rest))) (wide p) h.rounds h.layers
 
   back_constants : (set_in p ws).constants ≡ s.constants
   back_constants =
       ap (rows (block_words_of p) p.r) from_cs
-      ∙ rows_back (block_words_of p) p.n p.r s.constants (Ks ++ (Ms ++ rest)) (small p h.limits).wide h.constants.size h.constants.narrow
+      ∙ rows_back (block_words_of p) p.n p.r s.constants (Ks ++ (Ms ++ rest)) (wide p) h.constants.size h.constants.narrow
 
   back_keys : (set_in p ws).keys ≡ s.keys
   back_keys =
       ap (matrices_in (key_words_of p) p.n (p.r + 1)) from_ks
-      ∙ matrices_back (key_words_of p) p.n p.k (p.r + 1) s.keys (Ms ++ rest) (small p h.limits).key_wide h.key_rounds h.keys
+      ∙ matrices_back (key_words_of p) p.n p.k (p.r + 1) s.keys (Ms ++ rest) (key_wide p) h.key_rounds h.keys
 
   back_inverses : inverses_in p ws ≡ map inverse_of s.layers
   back_inverses =
       ap (matrices_in (block_words_of p) p.n p.r) from_ms
-      ∙ matrices_back (block_words_of p) p.n p.n p.r (map inverse_of s.layers) rest (small p h.limits).wide inverse_rounds inverses
+      ∙ matrices_back (block_words_of p) p.n p.n p.r (map inverse_of s.layers) rest (wide p) inverse_rounds inverses
 
   pub prepared_holds : set_in p ws ≡ s
   prepared_holds =

@@ -19,7 +19,7 @@ use Rattle.cipher.specs.Instances.{constants_place, first_stray_of, first_wrong_
 use Rattle.cipher.specs.declared.opened.Opened.{Opened}
 use Rattle.cipher.specs.Held.{held_in}
 use Rattle.cipher.specs.Sound.{Sound, TrueInverses}
-use Rattle.cipher.proofs.Bounds.{small}
+use Rattle.cipher.proofs.Bounds.{key_wide, wide}
 use Rattle.cipher.proofs.Limits.{limits_facts}
 use Rattle.cipher.proofs.Passes.{length_matrices}
 use Rattle.cipher.proofs.Strays.{before_inverses, before_keys, rows_none, set_none, to_the_end}
@@ -112,15 +112,15 @@ none_wrong (Some i) e = absurd (let z : ◌≡◌ {A = ℕ} 0 1 = cc in omega ar
 
 module _ (p : Params) (ws : List ℕ) (limits : Lawful p) (room : prepared_words_of p ≤ length ws) (clean : first_stray_of 0 (word_limits p) ws ≡ None) where
   blocks : Below p.n (rows (block_words_of p) (p.r * p.n + p.r) ws)
-  blocks = rows_none 0 (block_words_of p) p.n (p.r * p.n + p.r) ws (omega (arith, before_keys p, before_inverses p, to_the_end p)) (small p limits).wide (set_none p ws room clean).0
+  blocks = rows_none 0 (block_words_of p) p.n (p.r * p.n + p.r) ws (omega (arith, before_keys p, before_inverses p, to_the_end p)) (wide p) (set_none p ws room clean).0
 
   keys : Below p.k (rows (key_words_of p) ((p.r + 1) * p.n) (drop (keys_place p) ws))
   keys = rows_none (keys_place p) (key_words_of p) p.k ((p.r + 1) * p.n) (drop (keys_place p) ws)
-      (simp length-drop (omega (arith, before_inverses p, to_the_end p))) (small p limits).key_wide (set_none p ws room clean).1
+      (simp length-drop (omega (arith, before_inverses p, to_the_end p))) (key_wide p) (set_none p ws room clean).1
 
   inverses : Below p.n (rows (block_words_of p) (p.r * p.n) (drop (inverses_place p) ws))
   inverses = rows_none (inverses_place p) (block_words_of p) p.n (p.r * p.n) (drop (inverses_place p) ws)
-      (simp length-drop (omega (arith, to_the_end p))) (small p limits).wide (set_none p ws room clean).2
+      (simp length-drop (omega (arith, to_the_end p))) (wide p) (set_none p ws room clean).2
 
   pub lawful_set : LawfulSet (set_in p ws)
   lawful_set =

@@ -3,12 +3,15 @@ use Rattle.std.proofs.lemmas.List.{take_all}
 use Rattle.cipher.specs.Instances.{many_limits}
 use Rattle.cipher.proofs.Strays.{length_many_limits, part_stray, stray_within}
 use Rattle.cipher.proofs.stray.first_in_part.Goals as goal
+use Rattle.cipher.proofs.stray.first_in_part.Goals.{After-new}
+
+-- the words that the call is for
+part : (c : After-new) → c.new.result.words.now ≡ drop c.args.at c.args.set.words.now
+part c = c.new.ensures.words ∙ take_all (length c.args.set.words.now - c.args.at) (drop c.args.at c.args.set.words.now) (simp length-drop (omega arith))
 
 pub returns-in_err-i : goal.returns-in_err-i
 returns-in_err-i c =
-    let part : c.new.result.words.now ≡ drop c.args.at c.args.set.words.now =
-    c.new.ensures.words ∙ take_all (length c.args.set.words.now - c.args.at) (drop c.args.at c.args.set.words.now) (simp length-drop (omega arith)) in
-    c.from_residual.ensures ∙ part_stray c.args.w c.args.bits c.args.count c.args.at _ _ c.args.set.words.now _ None c.new.ensures.shape.0 c.new.ensures.shape.1 part c.in_err-i.ensures
+    c.from_residual.ensures ∙ part_stray c.args.w c.args.bits c.args.count c.args.at _ _ c.args.set.words.now _ None c.new.ensures.shape.0 c.new.ensures.shape.1 (part (goal.at.returns-in_err-i c).After-new) c.in_err-i.ensures
 
 pub overflow_add-result : goal.overflow_add-result
 overflow_add-result c =
@@ -19,6 +22,4 @@ overflow_add-result c =
 
 pub returns : goal.returns
 returns c =
-    let part : c.new.result.words.now ≡ drop c.args.at c.args.set.words.now =
-    c.new.ensures.words ∙ take_all (length c.args.set.words.now - c.args.at) (drop c.args.at c.args.set.words.now) (simp length-drop (omega arith)) in
-    part_stray c.args.w c.args.bits c.args.count c.args.at _ _ c.args.set.words.now _ (Some c.in_ok-i.i) c.new.ensures.shape.0 c.new.ensures.shape.1 part c.in_ok-i.ensures
+    part_stray c.args.w c.args.bits c.args.count c.args.at _ _ c.args.set.words.now _ (Some c.in_ok-i.i) c.new.ensures.shape.0 c.new.ensures.shape.1 (part (goal.at.returns c).After-new) c.in_ok-i.ensures
