@@ -36,7 +36,6 @@ loop-i-preserved c =
     let w = m.width in
     let row = c.in-Some.row.now in
     let t = at_row (goal.at.loop-i-preserved c).In-Some in
-    let b : i * (2 * length row) + 2 * length row - i * (2 * length row) ≡ 2 * length row = omega arith in
     let n = length_push c.loop-i.yielded (c.in-Some.i, c.in-Some.row) in
     let long : length c.augment_row.new.to ≡ 2 * length row = omega (arith, t.ends (λ v. 2 * v), simp (length-take, length-drop) at c.augment_row.auto.to) in
     subst (λ v. (k : ℕ) → k < length (c.loop-i.yielded ++ (c.in-Some.i, c.in-Some.row) ∷ []) →

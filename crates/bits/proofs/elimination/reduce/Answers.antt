@@ -16,7 +16,6 @@ returns c =
     let other = c.args.r * w in
     let a : start + w - start ≡ w = omega arith in
     let b : other + w - other ≡ w = omega arith in
-    let copied : length c.copy_from_slice.new.self ≡ w = omega arith in
     let size : length c.add_times.new.a ≡ w = omega arith in
     let room : length c.clear_rows.new.rest ≡ n * w = omega arith in
     let s = reduced w n c.args.c c.args.r (length c.add_times.new.a) (start + w - start) c.args.work.now c.copy_from_slice.new.self c.add_times.new.a
