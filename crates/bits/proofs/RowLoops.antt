@@ -1,5 +1,5 @@
 -- What a loop over the rows of a matrix knows of the row that is at hand.
-use Rattle.std.proofs.Common.{◌≡◌, ℕ, zero, suc, ◌+◌, ◌*◌, ◌<◌, ◌≤◌, List, [], ◌∷◌, length, get_or, take, drop, sym, refl, ap, ◌∙◌, suc-mul, zero-mul, zero-add, arith, length-drop, length-take, Some, None, Option}
+use Rattle.std.proofs.Common.{subst, ◌≡◌, ℕ, zero, suc, ◌+◌, ◌*◌, ◌<◌, ◌≤◌, List, [], ◌∷◌, length, get_or, take, drop, sym, refl, ap, ◌∙◌, suc-mul, zero-mul, zero-add, arith, length-drop, length-take, Some, None, Option}
 use denote.Ref.{Bor}
 use Rattle.std.specs.declared.iter.Enumerate.{Enumerate}
 use Rattle.std.specs.Iterator.{Yields, YieldsFirstRef}
@@ -44,6 +44,14 @@ left_of s = row_words s.width s.left s.words.now
 abbrev pub Steps : Rows → Option (Bor (List ℕ)) → Rows → Type 0
 Steps = YieldsFirstRef left_of
 
+-- what a turn of a loop over numbered rows knows: `row` is row i, which comes after `before` others
+pub record AtRow (w n : ℕ) (ws : List ℕ) (before i : ℕ) (row : List ℕ) : Type 0 where
+  pub turn : i ≡ before
+  pub below : i < n
+  pub words : row ≡ take w (drop (i * w) ws)
+  pub size : length row ≡ w
+  pub ends : (f : ℕ → ℕ) → i * f (length row) + f (length row) ≤ n * f w
+
 -- a loop over `m.rows().enumerate()`, which has yielded xs
 module _ (w n : ℕ) (ws : List ℕ) (s t u : Enumerate Rows) (xs : List (ℕ × Bor (List ℕ))) (r : Option (ℕ × Bor (List ℕ)))
     (from : left_of (enumerate_source s) ≡ row_words w n ws) (none : enumerate_count s ≡ 0) (y : Yields (enumerate_steps Steps) s xs t) (next : enumerate_steps Steps t r u) where
@@ -56,6 +64,18 @@ module _ (w n : ℕ) (ws : List ℕ) (s t u : Enumerate Rows) (xs : List (ℕ ×
       let h : length xs < n = omega (arith, a.0, length_numbered 0 (row_words w n ws), length_row_words w n ws) in
       let e = a.1 ∙ numbered_at 0 (length xs) (row_words w n ws) (x.0, x.1.now) (omega (arith, length_row_words w n ws)) in
       (h, ap (λ (p : ℕ × List ℕ). p.0) e ∙ zero-add (length xs), ap (λ (p : ℕ × List ℕ). p.1) e ∙ row_words_at w n (length xs) ws x.1.now h)
+
+  pub numbered_row : (x : ℕ × Bor (List ℕ)) → r ≡ Some x → n * w ≤ length ws → AtRow w n ws (length xs) x.0 x.1.now
+  numbered_row x is fits =
+      let t = numbered_turn x is in
+      let size : length x.1.now ≡ w = row_length w n ws (length xs) x.1.now fits t.0 t.2 in
+      record {
+        turn = t.1;
+        below = omega (arith, t.0, t.1);
+        words = t.2 ∙ ap (λ (k : ℕ). take w (drop (k * w) ws)) (sym t.1);
+        size = size;
+        ends = λ f. subst (λ (v : ℕ). x.0 * f v + f v ≤ n * f w) (sym size) (row_ends x.0 n (f w) (omega (arith, t.0, t.1)));
+      }
 
   pub numbered_end : r ≡ None → length xs ≡ n
   numbered_end is =

@@ -359,9 +359,6 @@ independent_next w i n j m r s Q h size is one cleared inv =
 
 -- ---- the two ways of `add_times`
 
-pub times_one : (x r b : ℕ) → b ≡ 1 → bit_xor x r ≡ bit_xor x (b * r)
-times_one x r b e = ap (bit_xor x) (sym (ap (λ (k : ℕ). k * r) e ∙ one-mul r))
-
 pub times_none : (x r b : ℕ) → b ≡ 0 → x ≡ bit_xor x (b * r)
 times_none x r b e = sym (ap (bit_xor x) (ap (λ (k : ℕ). k * r) e ∙ zero-mul r) ∙ xor_zero_r x)
 

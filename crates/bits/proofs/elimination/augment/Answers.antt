@@ -1,53 +1,33 @@
 use borrow.Rule.Slice.PartMut.{put_mid}
-use Rattle.std.proofs.Common.{ℕ, ◌<◌, ◌++◌, ◌∷◌, [], sym, ◌≡◌, ◌+◌, ◌-◌, ◌*◌, ◌^◌, length, take, drop, ◌∙◌, ap, ap₂, arith, length-drop, length-take, rules, subst}
+use Rattle.std.proofs.Common.{ℕ, ◌<◌, ◌++◌, ◌∷◌, [], sym, ◌≡◌, ◌+◌, ◌-◌, ◌*◌, ◌^◌, length, ◌∙◌, ap, ap₂, arith, length-drop, length-take, rules, subst}
 use Rattle.std.proofs.lemmas.List.{length_push}
 use Rattle.bits.specs.Gf2.{value}
-use Rattle.bits.proofs.RowLoops.{length_row_words, numbered_end, numbered_turn, row_length}
-use Rattle.bits.proofs.Vectors.{row_ends}
 use Rattle.bits.specs.Gauss.{row_at}
+use Rattle.bits.proofs.RowLoops.{AtRow, length_row_words, numbered_end, numbered_row}
 use Rattle.bits.proofs.Memory.{put_more}
 use Rattle.bits.proofs.elimination.augment.Goals as goal
+use Rattle.bits.proofs.elimination.augment.Goals.{In-Some}
 
 pub loop-i-init-derived : goal.loop-i-init-derived
 loop-i-init-derived c = let n = length_row_words c.rows.result.width c.rows.result.left c.rows.result.words.now in search (rules, n)
 
+at_row : (c : In-Some) → AtRow c.args.layer.width c.args.layer.height c.args.layer.words.now (length c.loop-i.yielded) c.in-Some.i c.in-Some.row.now
+at_row c = numbered_row _ _ _ c.into_iter-i-iterator.result c.loop-i.i-iterator c.next.new.self c.loop-i.yielded _ (cc) (cc) c.loop-i.yielded_by c.next.ensures.steps (c.in-Some.i, c.in-Some.row) c.in-Some.is c.args.layer.fits
+
 pub overflow_mul-start : goal.overflow_mul-start
-overflow_mul-start c =
-    let t = numbered_turn c.args.layer.width c.args.layer.height c.args.layer.words.now c.into_iter-i-iterator.result c.loop-i.i-iterator c.next.new.self c.loop-i.yielded _ (cc) (cc) c.loop-i.yielded_by c.next.ensures.steps (c.in-Some.i, c.in-Some.row) c.in-Some.is in
-    let size : length c.in-Some.row.now ≡ c.args.layer.width = row_length c.args.layer.width c.args.layer.height c.args.layer.words.now (length c.loop-i.yielded) c.in-Some.row.now c.args.layer.fits t.0 t.2 in
-    let ends = row_ends c.in-Some.i c.args.layer.height (2 * c.args.layer.width) (omega (arith, t.0, t.1)) in
-    let same : c.in-Some.i * (2 * length c.in-Some.row.now) ≡ c.in-Some.i * (2 * c.args.layer.width) = ap (λ w. c.in-Some.i * (2 * w)) size in
-    omega (arith, t.0, t.1, size, same, ends)
+overflow_mul-start c = omega (arith, (at_row (goal.at.overflow_mul-start c).In-Some).ends (λ v. 2 * v))
 
 pub overflow_add-start : goal.overflow_add-start
-overflow_add-start c =
-    let t = numbered_turn c.args.layer.width c.args.layer.height c.args.layer.words.now c.into_iter-i-iterator.result c.loop-i.i-iterator c.next.new.self c.loop-i.yielded _ (cc) (cc) c.loop-i.yielded_by c.next.ensures.steps (c.in-Some.i, c.in-Some.row) c.in-Some.is in
-    let size : length c.in-Some.row.now ≡ c.args.layer.width = row_length c.args.layer.width c.args.layer.height c.args.layer.words.now (length c.loop-i.yielded) c.in-Some.row.now c.args.layer.fits t.0 t.2 in
-    let ends = row_ends c.in-Some.i c.args.layer.height (2 * c.args.layer.width) (omega (arith, t.0, t.1)) in
-    let same : c.in-Some.i * (2 * length c.in-Some.row.now) ≡ c.in-Some.i * (2 * c.args.layer.width) = ap (λ w. c.in-Some.i * (2 * w)) size in
-    omega (arith, t.0, t.1, size, same, ends)
+overflow_add-start c = omega (arith, (at_row (goal.at.overflow_add-start c).In-Some).ends (λ v. 2 * v))
 
 pub offset_bounds-work-start : goal.offset_bounds-work-start
-offset_bounds-work-start c =
-    let t = numbered_turn c.args.layer.width c.args.layer.height c.args.layer.words.now c.into_iter-i-iterator.result c.loop-i.i-iterator c.next.new.self c.loop-i.yielded _ (cc) (cc) c.loop-i.yielded_by c.next.ensures.steps (c.in-Some.i, c.in-Some.row) c.in-Some.is in
-    let size : length c.in-Some.row.now ≡ c.args.layer.width = row_length c.args.layer.width c.args.layer.height c.args.layer.words.now (length c.loop-i.yielded) c.in-Some.row.now c.args.layer.fits t.0 t.2 in
-    let ends = row_ends c.in-Some.i c.args.layer.height (2 * c.args.layer.width) (omega (arith, t.0, t.1)) in
-    let same : c.in-Some.i * (2 * length c.in-Some.row.now) ≡ c.in-Some.i * (2 * c.args.layer.width) = ap (λ w. c.in-Some.i * (2 * w)) size in
-    omega (arith, t.0, t.1, size, same, ends)
+offset_bounds-work-start c = omega (arith, (at_row (goal.at.offset_bounds-work-start c).In-Some).ends (λ v. 2 * v))
 
 pub slice_bounds-augment_row-end : goal.slice_bounds-augment_row-end
-slice_bounds-augment_row-end c =
-    let t = numbered_turn c.args.layer.width c.args.layer.height c.args.layer.words.now c.into_iter-i-iterator.result c.loop-i.i-iterator c.next.new.self c.loop-i.yielded _ (cc) (cc) c.loop-i.yielded_by c.next.ensures.steps (c.in-Some.i, c.in-Some.row) c.in-Some.is in
-    let size : length c.in-Some.row.now ≡ c.args.layer.width = row_length c.args.layer.width c.args.layer.height c.args.layer.words.now (length c.loop-i.yielded) c.in-Some.row.now c.args.layer.fits t.0 t.2 in
-    let ends = row_ends c.in-Some.i c.args.layer.height (2 * c.args.layer.width) (omega (arith, t.0, t.1)) in
-    let same : c.in-Some.i * (2 * length c.in-Some.row.now) ≡ c.in-Some.i * (2 * c.args.layer.width) = ap (λ w. c.in-Some.i * (2 * w)) size in
-    omega (arith, t.0, t.1, size, same, ends)
+slice_bounds-augment_row-end c = omega (arith, (at_row (goal.at.slice_bounds-augment_row-end c).In-Some).ends (λ v. 2 * v))
 
 pub augment_row-requires-clause-place : goal.augment_row-requires-clause-place
-augment_row-requires-clause-place c =
-    let t = numbered_turn c.args.layer.width c.args.layer.height c.args.layer.words.now c.into_iter-i-iterator.result c.loop-i.i-iterator c.next.new.self c.loop-i.yielded _ (cc) (cc) c.loop-i.yielded_by c.next.ensures.steps (c.in-Some.i, c.in-Some.row) c.in-Some.is in
-    let size : length c.in-Some.row.now ≡ c.args.layer.width = row_length c.args.layer.width c.args.layer.height c.args.layer.words.now (length c.loop-i.yielded) c.in-Some.row.now c.args.layer.fits t.0 t.2 in
-    omega (arith, t.0, t.1, size, c.requires.fits)
+augment_row-requires-clause-place c = omega (arith, (at_row (goal.at.augment_row-requires-clause-place c).In-Some).below, (at_row (goal.at.augment_row-requires-clause-place c).In-Some).size, c.requires.fits)
 
 pub loop-i-preserved : goal.loop-i-preserved
 loop-i-preserved c =
@@ -55,18 +35,13 @@ loop-i-preserved c =
     let i = c.in-Some.i in
     let w = m.width in
     let row = c.in-Some.row.now in
-    let t = numbered_turn m.width m.height m.words.now c.into_iter-i-iterator.result c.loop-i.i-iterator c.next.new.self c.loop-i.yielded _ (cc) (cc) c.loop-i.yielded_by c.next.ensures.steps (c.in-Some.i, c.in-Some.row) c.in-Some.is in
-    let size : length row ≡ w = row_length w m.height m.words.now (length c.loop-i.yielded) row m.fits t.0 t.2 in
-    let b : i * (2 * w) + 2 * w - i * (2 * w) ≡ 2 * w = omega arith in
-    let e = row_ends i m.height (2 * w) (omega (arith, t.0, t.1)) in
+    let t = at_row (goal.at.loop-i-preserved c).In-Some in
     let n = length_push c.loop-i.yielded (c.in-Some.i, c.in-Some.row) in
-    let same : i * (2 * length row) ≡ i * (2 * w) = ap (λ v. i * (2 * v)) size in
-    let long : length c.augment_row.new.to ≡ 2 * w = omega (arith, size, same, e, simp (length-take, length-drop) at c.augment_row.auto.to) in
-    let here : value row ≡ row_at w m.words.now i = ap value (t.2 ∙ ap (λ j. take w (drop (j * w) m.words.now)) (sym t.1)) in
+    let long : length c.augment_row.new.to ≡ 2 * length row = omega (arith, t.ends (λ v. 2 * v), simp (length-take, length-drop) at c.augment_row.auto.to) in
     subst (λ v. (k : ℕ) → k < length (c.loop-i.yielded ++ (c.in-Some.i, c.in-Some.row) ∷ []) →
-    row_at (2 * w) (put_mid (i * (2 * v)) (i * (2 * v) + 2 * v - i * (2 * v)) c.loop-i.work c.augment_row.new.to) k ≡ row_at w m.words.now k + 2 ^ (64 * w) * 2 ^ k) (sym size)
-    (λ k h. put_more (2 * w) m.height i _ c.loop-i.work c.augment_row.new.to (λ j. row_at w m.words.now j + 2 ^ (64 * w) * 2 ^ j) (omega (arith, t.0, t.1)) (omega arith) long b
-    (λ j l. c.loop-i.invariant j (omega (arith, t.1))) (c.augment_row.ensures ∙ ap₂ (λ x v. x + 2 ^ (64 * v) * 2 ^ i) here size) k (omega (arith, t.1, n)))
+    row_at (2 * w) (put_mid (i * (2 * v)) (i * (2 * v) + 2 * v - i * (2 * v)) c.loop-i.work c.augment_row.new.to) k ≡ row_at w m.words.now k + 2 ^ (64 * w) * 2 ^ k) (sym t.size)
+    (λ k h. put_more (2 * w) m.height i _ c.loop-i.work c.augment_row.new.to (λ j. row_at w m.words.now j + 2 ^ (64 * w) * 2 ^ j) t.below (omega arith) (omega (arith, long, t.size)) (omega arith)
+    (λ j l. c.loop-i.invariant j (omega (arith, t.turn))) (c.augment_row.ensures ∙ ap₂ (λ x v. x + 2 ^ (64 * v) * 2 ^ i) (ap value t.words) t.size) k (omega (arith, t.turn, n)))
 
 pub returns : goal.returns
 returns c =

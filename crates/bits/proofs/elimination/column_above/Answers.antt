@@ -3,7 +3,7 @@ use Rattle.bits.specs.Gf2.{mul, rows, value}
 use Rattle.bits.proofs.Memory.{mul_rows_below}
 use Rattle.bits.proofs.elimination.column_above.Goals as goal
 
-pub put_bit-requires : goal.put_bit-requires
-put_bit-requires c =
+pub put_bit-requires-clause-above : goal.put_bit-requires-clause-above
+put_bit-requires-clause-above c =
     let product : value c.product.new.out ≡ mul (rows (length c.unit.new.v) c.args.c c.args.work.now) (value c.unit.new.v) = search rules in
-    record { place = omega arith; above = omega (arith, product, mul_rows_below (length c.unit.new.v) c.args.c (value c.unit.new.v) c.args.work.now) }
+    omega (arith, product, mul_rows_below (length c.unit.new.v) c.args.c (value c.unit.new.v) c.args.work.now)

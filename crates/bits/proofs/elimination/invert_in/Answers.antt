@@ -1,16 +1,8 @@
-use Rattle.std.proofs.Common.{rules, ℕ, ◌/◌, ◌≡◌, ◌+◌, ◌*◌, ◌^◌, ◌<◌, ◌≤◌, length, refl, ap, ◌∙◌, mul-le-mul_right, arith}
+use Rattle.std.proofs.Common.{rules, ℕ, ◌/◌, ◌≡◌, ◌+◌, ◌*◌, ◌^◌, ◌<◌, length, refl, ap, ◌∙◌, arith}
 use Rattle.bits.specs.Gf2.{mul, rows}
 use Rattle.bits.specs.Gauss.{row_at}
 use Rattle.bits.proofs.Ends.{collapsed, done, inverted}
 use Rattle.bits.proofs.elimination.invert_in.Goals as goal
-
-pub column_above-requires : goal.column_above-requires
-column_above-requires c =
-    let v = length c.eliminate.new.row in
-    let e : v ≡ 2 * c.args.layer.width = omega arith in
-    let h : c.in-Some.c < c.args.layer.height = c.in-Some.ensures.stop.0 in
-    let l : c.in-Some.c ≤ c.args.layer.height = omega arith in
-    record { fits = omega (arith, mul-le-mul_right v l, ap (λ k. c.args.layer.height * k) e); place = omega arith; room = omega arith }
 
 pub returns-in-None : goal.returns-in-None
 returns-in-None c =

@@ -2,33 +2,11 @@ use Rattle.std.proofs.Common.{◌≡◌, ◌+◌, ◌-◌, ◌*◌, ◌^◌, len
 use lib.Bits.{bit_xor}
 use Rattle.bits.specs.Gf2.{value}
 use Rattle.bits.proofs.Products.{dot_below}
-use Rattle.bits.proofs.Vectors.{row_ends}
 use Rattle.bits.proofs.Memory.{reduced}
 use Rattle.bits.proofs.elimination.reduce.Goals as goal
 
-pub offset_bounds-work-start : goal.offset_bounds-work-start
-offset_bounds-work-start c = omega (arith, row_ends c.args.c c.args.n (length c.args.row.now) (omega arith))
-
-pub slice_bounds-copy_from_slice-end : goal.slice_bounds-copy_from_slice-end
-slice_bounds-copy_from_slice-end c = omega (arith, row_ends c.args.c c.args.n (length c.args.row.now) (omega arith))
-
 pub overflow_sub-lacks : goal.overflow_sub-lacks
 overflow_sub-lacks c = omega (arith, dot_below (2 ^ c.args.c) (value c.copy_from_slice.new.self))
-
-pub offset_bounds-work-other : goal.offset_bounds-work-other
-offset_bounds-work-other c = omega (arith, row_ends c.args.r c.args.n (length c.args.row.now) (omega arith))
-
-pub slice_bounds-add_times-end : goal.slice_bounds-add_times-end
-slice_bounds-add_times-end c = omega (arith, row_ends c.args.r c.args.n (length c.args.row.now) (omega arith))
-
-pub overflow_add-start-2 : goal.overflow_add-start-2
-overflow_add-start-2 c = omega (arith, row_ends c.args.c c.args.n (length c.args.row.now) (omega arith))
-
-pub offset_bounds-work-start-2 : goal.offset_bounds-work-start-2
-offset_bounds-work-start-2 c = omega (arith, row_ends c.args.c c.args.n (length c.args.row.now) (omega arith))
-
-pub slice_bounds-copy_from_slice-end-2 : goal.slice_bounds-copy_from_slice-end-2
-slice_bounds-copy_from_slice-end-2 c = omega (arith, row_ends c.args.c c.args.n (length c.args.row.now) (omega arith))
 
 pub returns : goal.returns
 returns c =
@@ -38,7 +16,6 @@ returns c =
     let other = c.args.r * w in
     let a : start + w - start ≡ w = omega arith in
     let b : other + w - other ≡ w = omega arith in
-    let copied : length c.copy_from_slice.new.self ≡ w = omega arith in
     let size : length c.add_times.new.a ≡ w = omega arith in
     let room : length c.clear_rows.new.rest ≡ n * w = omega arith in
     let s = reduced w n c.args.c c.args.r (length c.add_times.new.a) (start + w - start) c.args.work.now c.copy_from_slice.new.self c.add_times.new.a

@@ -1,14 +1,14 @@
-use Rattle.std.proofs.Common.{◌≡◌, refl, arith, pow_pos}
+use Rattle.std.proofs.Common.{◌≡◌, pow_pos, ap, ◌∙◌, arith}
 use Rattle.bits.specs.Gf2.{value}
-use Rattle.bits.proofs.Vectors.{value_cleared}
+use Rattle.bits.proofs.Vectors.{value_zeros}
 use Rattle.bits.proofs.elimination.unit.Goals as goal
+use Rattle.bits.proofs.elimination.unit.Goals.{After-fill}
 
-pub put_bit-requires : goal.put_bit-requires
-put_bit-requires c =
-    let z : value c.fill.new.self ≡ 0 = value_cleared c.fill.new.self (λ k h. c.fill.ensures.clones k 0 (omega (arith, h, c.fill.ensures.len)) refl) in
-    record { place = omega (arith, c.fill.ensures.len); above = omega (arith, z, pow_pos c.args.k) }
+cleared : (c : After-fill) → value c.fill.new.self ≡ 0
+cleared c = ap value (c.fill.ensures.after (λ x e. e)) ∙ value_zeros _
+
+pub put_bit-requires-clause-above : goal.put_bit-requires-clause-above
+put_bit-requires-clause-above c = omega (arith, cleared (goal.at.put_bit-requires-clause-above c).After-fill, pow_pos c.args.k)
 
 pub returns : goal.returns
-returns c =
-    let z : value c.fill.new.self ≡ 0 = value_cleared c.fill.new.self (λ k h. c.fill.ensures.clones k 0 (omega (arith, h, c.fill.ensures.len)) refl) in
-    omega (arith, z, c.put_bit.ensures)
+returns c = omega (arith, cleared (goal.at.returns c).After-fill, c.put_bit.ensures)

@@ -4,12 +4,6 @@ use Rattle.bits.specs.Gauss.{clear}
 use Rattle.bits.proofs.Vectors.{row_ends, clear_step}
 use Rattle.bits.proofs.matrix.clear_rows.Goals as goal
 
-pub offset_bounds-rest-start : goal.offset_bounds-rest-start
-offset_bounds-rest-start c = omega (arith, row_ends c.loop-i.i c.args.count (length c.args.row.now) (omega arith))
-
-pub slice_bounds-clear_row-end : goal.slice_bounds-clear_row-end
-slice_bounds-clear_row-end c = omega (arith, row_ends c.loop-i.i c.args.count (length c.args.row.now) (omega arith))
-
 pub loop-i-preserved : goal.loop-i-preserved
 loop-i-preserved c =
     let i = c.loop-i.i in

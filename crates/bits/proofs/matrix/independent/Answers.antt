@@ -3,12 +3,8 @@ use Rattle.bits.specs.Gf2.{Independent}
 use Rattle.bits.proofs.Vectors.{rows_copied}
 use Rattle.bits.proofs.matrix.independent.Goals as goal
 
-pub returns-clause-sound : goal.returns-clause-sound
-returns-clause-sound c t =
+pub returns : goal.returns
+returns c =
     let m = c.args.m in
-    subst Independent (rows_copied m.width m.height m.words.now c.copy_from_slice.new.self _ m.fits c.copy_from_slice.ensures.after) (c.independent_in.ensures.sound t)
-
-pub returns-clause-complete : goal.returns-clause-complete
-returns-clause-complete c i =
-    let m = c.args.m in
-    c.independent_in.ensures.complete (subst Independent (sym (rows_copied m.width m.height m.words.now c.copy_from_slice.new.self _ m.fits c.copy_from_slice.ensures.after)) i)
+    let same = rows_copied m.width m.height m.words.now c.copy_from_slice.new.self _ m.fits c.copy_from_slice.ensures.after in
+    record { sound = λ t. subst Independent same (c.independent_in.ensures.sound t); complete = λ i. c.independent_in.ensures.complete (subst Independent (sym same) i) }

@@ -1,5 +1,0 @@
-use Rattle.std.proofs.Common.{arith}
-use Rattle.bits.proofs.words.fitting.Goals as goal
-
-pub returns : goal.returns
-returns c = λ i. omega (arith, c.type_inv.v i)
