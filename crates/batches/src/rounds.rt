@@ -110,9 +110,8 @@ pub(crate) fn decrypt_wires<E: Engine>(
 {
     let set = opened.set;
     let m = set.params.m as usize;
-    let r = set.params.r as usize;
-    for i in 0..r {
-        backward(e, set.round(r - 1 - i), m, key, state, spare, sums);
+    for i in (0..set.params.r as usize).rev() {
+        backward(e, set.round(i), m, key, state, spare, sums);
     }
     product(e, set.first_key(), key, spare, sums);
     add_wires(e, state, spare);
