@@ -12,10 +12,7 @@ fn and<E: Engine>(e: &mut E, x: E::Wire, y: E::Wire) -> E::Wire
     requires { (E.acct e.old).done < (E.acct e.old).granted }
     ensures { (E.means result ≡ bit_and (E.means x) (E.means y)) × Spent (E.acct e.old) 1 (E.acct e.new) }
 {
-    match e.gate(x, y) {
-        Ok(w) => w,
-        Err(_) => unreachable!(),
-    }
+    e.gate(x, y).unwrap()
 }
 
 // The S-box on the three wires at `at`, which gives a + bc, a + b + ac and a + b + c + ab, or its inverse: a + b + bc, b + ac, a + b + c + ab.

@@ -27,10 +27,7 @@ fn group_size(room: usize) -> usize
 fn wire_at<E: Engine>(e: &E, from: &[E::Wire], i: usize) -> E::Wire
     ensures { E.means result ≡ slice_index (map E.means from.now) i }
 {
-    match from.get(i) {
-        Some(wire) => *wire,
-        None => e.enter(0, 0),
-    }
+    from.get(i).copied().unwrap_or_else(|| e.enter(0, 0))
 }
 
 // The sums of the first `b` wires of `from`, for each way to pick among them: entry t has the wires whose bit in t is 1.
