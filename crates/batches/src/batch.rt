@@ -1,5 +1,5 @@
-// A batch: its checks, and the cipher on all its blocks at once. What a caller lends is passed slice by slice: a struct of the slices would be built for
-// each call and taken apart by the next.
+// A batch: its checks, and the cipher on all its blocks at once. The count, blocks, keys, masks and cells go one by one: that is the signature of the
+// public calls, and their slices are lent on as they came.
 ghost use Rattle.std.specs.Prelude.{◌≡◌, ℕ, ◌+◌, ◌*◌, ◌<◌, ◌≤◌, false, List, map, length, is_ok, Some};
 ghost use Rattle.bits.specs.Gf2.{Below, flat, rows};
 ghost use Rattle.cipher.specs.LowMC.{decrypt as deciphered, encrypt as enciphered};

@@ -1,4 +1,5 @@
-// The substitution layer on wires: the only place where gates are spent. Callers have seen to it that enough are granted.
+// The substitution layer on wires: the only place where gates are spent. Callers have seen to it that enough are granted. Why words have functions of their
+// own in `cipher` stands at the head of `rounds`.
 ghost use Rattle.std.specs.Prelude.{◌≡◌, ℕ, ◌+◌, ◌*◌, ◌<◌, ◌≤◌, map, length, bit_and};
 ghost use Rattle.engines.specs.Accounts.{Spent};
 ghost use Rattle.cipher.specs.Boxes.{boxes};

@@ -63,6 +63,7 @@ fn add_group<E: Engine>(
     let word = g / in_word;
     let shift = b * (g % in_word);
     let ways: u64 = 1 << b;
+    // No `zip` with the rows: what is written through an adapter of `iter_mut` other than `enumerate` is lost to the proof.
     for (i, wire) in to.iter_mut().enumerate() {
         let pick = (m.row(i)[word] >> shift) % ways;
         *wire = e.add(*wire, sums[pick as usize]);
@@ -96,6 +97,7 @@ pub(crate) fn add_wires<E: Engine>(e: &E, to: &mut [E::Wire], from: &[E::Wire])
     requires { length to.old ≡ length from.now }
     ensures { (v : ℕ) → mul (map E.means to.new) v ≡ bit_xor (mul (map E.means to.old) v) (mul (map E.means from.now) v) }
 {
+    // No `zip`, through which what is written is lost to the proof.
     for (i, wire) in to.iter_mut().enumerate() {
         *wire = e.add(*wire, from[i]);
     }
