@@ -1,20 +1,21 @@
 -- A round on wires, lane by lane: what the calls of one round compute, and the gates of several.
-use Rattle.std.proofs.Common.{◌≡◌, ℕ, ◌+◌, ◌*◌, ◌^◌, ◌<◌, ◌≤◌, List, get_or, take, drop, sym, ap, ◌∙◌, subst, ap₂, mul_comm, add-mul, one-mul, arith}
+use Rattle.std.proofs.Common.{◌≡◌, ℕ, ◌+◌, ◌-◌, ◌*◌, ◌^◌, ◌<◌, ◌≤◌, List, map, get_or, take, drop, sym, refl, ap, ◌∙◌, subst, ap₂, mul_comm, add-mul, one-mul, zero-mul, arith}
 use lib.Bits.{bit_xor, xor_assoc, xor_comm}
 use Rattle.std.proofs.lemmas.List.{drop-drop}
-use Rattle.bits.specs.Gf2.{mul, rows, value}
+use Rattle.bits.specs.Gf2.{inverse_of, mul, rows, value}
+use Rattle.bits.specs.Matrices.{rows_in}
 use Rattle.bits.proofs.Memory.{rows_at}
 use Rattle.bits.proofs.Rank.{mul_mul}
 use Rattle.bits.proofs.Vectors.{row_ends}
 use Rattle.cipher.specs.declared.params.Params.{Params}
 use Rattle.cipher.specs.declared.prepared.Round.{Round}
 use Rattle.cipher.specs.Parts.{PartsOf}
-use Rattle.cipher.specs.Instances.{constants_place, set_in, times}
-use Rattle.cipher.specs.LowMC.{round, substitution, unsubstitution}
-use Rattle.cipher.specs.Parameters.{block_words_of}
-use Rattle.cipher.specs.Places.{unround_by}
+use Rattle.cipher.specs.Instances.{constants_place, inverses_in, keys_place, matrices_in, set_in, times}
+use Rattle.cipher.specs.LowMC.{decrypt, round, substitution, unrounds, unsubstitution}
+use Rattle.cipher.specs.Parameters.{block_words_of, key_words_of}
+use Rattle.cipher.specs.Places.{matrix_at, places_of, unround_by}
 use Rattle.cipher.specs.Sets.{LawfulSet}
-use Rattle.cipher.proofs.Passes.{constant_of}
+use Rattle.cipher.proofs.Passes.{constant_of, constants_left, decrypted, keys_left, layers_left, unround_at, unrounds_more}
 use Rattle.engines.specs.declared.engine.Account.{Account}
 use Rattle.engines.specs.Accounts.{Spent}
 use Rattle.batches.proofs.Packing.{below_at}
@@ -47,6 +48,34 @@ constant_below p ws g i h r parts =
     rows_at w p.r i (drop (constants_place p) ws) h ∙ ap (λ (l : List ℕ). value (take w l)) (drop-drop (i * w) (constants_place p) ws) in
     subst (λ (x : ℕ). x < 2 ^ p.n) (is ∙ sym parts.constant) b
 
+-- ---- rounds that are undone, from the last
+
+module _ (p : Params) (ws : List ℕ) (key u : ℕ) where
+  -- those from round i on
+  abbrev pub undone_from : ℕ → ℕ
+  undone_from i = unrounds p.m key (layers_left p ws i) (constants_left p ws i) (keys_left p ws i) u
+
+  pub none_undone : u ≡ undone_from p.r
+  none_undone =
+      let z : p.r - p.r ≡ 0 = omega arith in
+      sym (ap (λ (k : ℕ). unrounds p.m key (matrices_in (block_words_of p) p.n k (drop (places_of p p.r).layer ws)) (constants_left p ws p.r) (keys_left p ws p.r) u) z)
+
+  pub one_undone : (i s t : ℕ) → 0 < i → i ≤ p.r → inverses_in p ws ≡ map inverse_of (set_in p ws).layers → (r : Round) → PartsOf p ws (i - 1) r
+      → t ≡ unround_by p.m key (rows_in r.inverse) (value r.constant.now) (rows_in r.key) s → s ≡ undone_from i → t ≡ undone_from (i - 1)
+  one_undone i s t some few true r is e inv =
+      let k : ℕ = p.r - i in
+      let here : i - 1 ≡ p.r - 1 - k = omega arith in
+      let past : i ≡ p.r - k = omega arith in
+      let next : p.r - (k + 1) ≡ i - 1 = omega arith in
+      unrounds_more p ws k p.m key s t u (omega arith) true
+      (unround_at p ws (p.r - 1 - k) r (subst (λ (n : ℕ). PartsOf p ws n r) here is) p.m key s t e) (inv ∙ ap undone_from past)
+      ∙ ap undone_from next
+
+  pub all_undone : (i s t : ℕ) → i ≡ 0 → s ≡ undone_from i → t ≡ bit_xor s (mul (matrix_at (key_words_of p) p.n (keys_place p) ws) key) → t ≡ decrypt (set_in p ws) key u
+  all_undone i s t none inv e =
+      let past : i ≡ p.r - p.r = omega arith in
+      decrypted p ws p.r key s t u refl (inv ∙ ap undone_from past) e
+
 -- ---- gates
 
 -- one more round fits where i of r are behind
@@ -65,3 +94,15 @@ gates_more i m a b c s t =
       granted = t.granted ∙ s.granted;
       capacity = t.capacity ∙ s.capacity;
     }
+
+pub gates_none : (r m : ℕ) (a : Account) → a.done ≤ a.granted → Spent a ((r - r) * (3 * m)) a
+gates_none r m a room =
+    let z : r - r ≡ 0 = omega arith in
+    let n : (r - r) * (3 * m) ≡ 0 = ap (λ (k : ℕ). k * (3 * m)) z ∙ zero-mul (3 * m) in
+    record { room = omega (arith, n, room); done = omega (arith, n); granted = refl; capacity = refl }
+
+-- the same back from round i
+pub gates_back : (i r m : ℕ) (a b c : Account) → 0 < i → i ≤ r → Spent a ((r - i) * (3 * m)) b → Spent b (3 * m) c → Spent a ((r - (i - 1)) * (3 * m)) c
+gates_back i r m a b c some few s t =
+    let one : (r - i) + 1 ≡ r - (i - 1) = omega arith in
+    subst (λ (n : ℕ). Spent a (n * (3 * m)) c) one (gates_more (r - i) m a b c s t)

@@ -1,5 +1,5 @@
 -- A batch: its checks in their order, and what it leaves in memory.
-use Rattle.std.specs.Prelude.{◌≡◌, ℕ, ◌+◌, ◌*◌, not, ◌||◌, List, [], ◌∷◌, map, length, take, drop, replicate, Some, None, Ok, Err, Result, ◌==◌, nat_lt}
+use Rattle.std.specs.Prelude.{◌≡◌, ℕ, ◌≤◌, ◌+◌, ◌*◌, not, ◌||◌, List, [], ◌∷◌, map, length, take, drop, replicate, Some, None, Ok, Err, Result, ◌==◌, nat_lt}
 use Rattle.bits.specs.declared.refusal.Refusal.TheVariants.{NoInstance, OutOfGates, TooFewWords, WrongCount, WrongLength}
 use Rattle.bits.specs.declared.refusal.Layer.TheVariants.{Batch, Engine, Set as SetLayer}
 use Rattle.bits.specs.declared.refusal.Fault.{Fault}
@@ -20,6 +20,14 @@ masks_of p = p.n + p.k
 -- cells for the wires of three states and of a key
 abbrev pub cells_of : Params → ℕ
 cells_of p = 3 * p.n + p.k
+
+-- so many gates are left
+abbrev pub GatesLeft : Account → ℕ → Type 0
+GatesLeft a n = a.done + n ≤ a.granted
+
+-- wires for the rounds: a state, a spare one, a key, and room for the sums of one wire at a time
+abbrev pub WiresFor : {W : Type 0} → Params → (state spare key sums : List W) → Type 0
+WiresFor p state spare key sums = (length state ≡ p.n) × (length spare ≡ p.n) × (length key ≡ p.k) × (2 ≤ length sums)
 
 -- an instance; the count; words of blocks and of keys; stray bits in blocks and in keys; masks, cells, gates
 abbrev pub batch_checks : (lanes : ℕ) → Account → Held → (count : ℕ) → (blocks keys : List ℕ) → (masks cells : ℕ) → Result Unit Fault

@@ -1,5 +1,5 @@
-// A batch: its checks, and the cipher on all its blocks at once. What a caller lends is passed slice by slice: a struct of the slices would be built for
-// each call and taken apart by the next.
+// A batch: its checks, and the cipher on all its blocks at once. The count, blocks, keys, masks and cells go one by one: that is the signature of the
+// public calls, and their slices are lent on as they came.
 ghost use Rattle.std.specs.Prelude.{◌≡◌, ℕ, ◌+◌, ◌*◌, ◌<◌, ◌≤◌, false, List, map, length, is_ok, Some};
 ghost use Rattle.bits.specs.Gf2.{Below, flat, rows};
 ghost use Rattle.cipher.specs.LowMC.{decrypt as deciphered, encrypt as enciphered};
@@ -9,7 +9,7 @@ ghost use Rattle.cipher.specs.Holds.{held_by};
 ghost use Rattle.cipher.specs.Directions.{along};
 ghost use Rattle.engines.specs.Accounts.{Spent};
 ghost use Rattle.batches.specs.Lanes.{lane};
-ghost use Rattle.batches.specs.Batches.{Cleared, Leaves, batch_checks, blocks_after, cells_of, masks_of, one_by_one_of};
+ghost use Rattle.batches.specs.Batches.{Cleared, GatesLeft, Leaves, WiresFor, batch_checks, blocks_after, cells_of, masks_of, one_by_one_of};
 
 use crate::lanes::{load, unload};
 use crate::rounds::{decrypt_wires, encrypt_wires};
@@ -74,8 +74,8 @@ fn run_wires<E: Engine>(
     spare: &mut [E::Wire],
     sums: &mut [E::Wire],
 )
-    requires wires { (length state.old ≡ opened.set.params.n) × (length spare.old ≡ opened.set.params.n) × (length key.now ≡ opened.set.params.k) × (2 ≤ length sums.old) }
-    requires gates { (E.acct e.old).done + gates_of opened.set.params ≤ (E.acct e.old).granted }
+    requires wires { WiresFor opened.set.params state.old spare.old key.now sums.old }
+    requires gates { GatesLeft (E.acct e.old) (gates_of opened.set.params) }
     ensures lanes { (j : ℕ) → j < E.lanes → lane j (map E.means state.new) ≡ along way (set_in opened.entry.set.params opened.entry.set.words.now) (lane j (map E.means key.now)) (lane j (map E.means state.old)) }
     ensures spent { Spent (E.acct e.old) (gates_of opened.entry.set.params) (E.acct e.new) }
 {
@@ -102,7 +102,7 @@ fn run_cells<E: Engine>(
     requires narrow { Below opened.set.params.n (rows (block_words_of opened.set.params) count blocks.old) × Below opened.set.params.k (rows (key_words_of opened.set.params) count keys.now) }
     requires masks { masks_of opened.set.params ≤ length masks.now }
     requires cells { length cells.old ≡ cells_of opened.set.params }
-    requires gates { (E.acct e.old).done + gates_of opened.set.params ≤ (E.acct e.old).granted }
+    requires gates { GatesLeft (E.acct e.old) (gates_of opened.set.params) }
     ensures blocks { blocks.new ≡ flat (block_words_of opened.entry.set.params) (one_by_one_of (along way (set_in opened.entry.set.params opened.entry.set.words.now)) (rows (key_words_of opened.entry.set.params) count keys.now) (rows (block_words_of opened.entry.set.params) count blocks.old)) }
     ensures spent { Spent (E.acct e.old) (gates_of opened.entry.set.params) (E.acct e.new) }
 {
@@ -133,7 +133,7 @@ fn run_accepted<E: Engine>(
     requires narrow { Below opened.set.params.n (rows (block_words_of opened.set.params) count blocks.old) × Below opened.set.params.k (rows (key_words_of opened.set.params) count keys.now) }
     requires masks { masks_of opened.set.params ≤ length masks.now }
     requires cells { cells_of opened.set.params ≤ length cells.old }
-    requires gates { (E.acct e.old).done + gates_of opened.set.params ≤ (E.acct e.old).granted }
+    requires gates { GatesLeft (E.acct e.old) (gates_of opened.set.params) }
     ensures blocks { blocks.new ≡ flat (block_words_of opened.entry.set.params) (one_by_one_of (along way (set_in opened.entry.set.params opened.entry.set.words.now)) (rows (key_words_of opened.entry.set.params) count keys.now) (rows (block_words_of opened.entry.set.params) count blocks.old)) }
     ensures spent { Spent (E.acct e.old) (gates_of opened.entry.set.params) (E.acct e.new) }
     ensures cells { Cleared E.means (cells_of opened.entry.set.params) cells.old cells.new }

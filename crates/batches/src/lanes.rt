@@ -26,6 +26,7 @@ pub(crate) fn load<E: Engine>(e: &E, blocks: Matrix<'_>, masks: &[u64], cells: &
     requires masks { length cells.old ≤ length masks.now }
     ensures { map E.means cells.new ≡ columns (length cells.old) (rows_in blocks.entry) }
 {
+    // No `zip` with the masks, through which what is written is lost to the proof.
     for (i, cell) in cells.iter_mut().enumerate() {
         *cell = e.enter(gather(blocks, i), masks[i]);
     }
@@ -44,7 +45,8 @@ fn read_lane<E: Engine>(e: &E, cells: &[E::Wire], j: usize, block: &mut [u64])
     }
 }
 
-// Reads the wires back into `count` blocks of `w` words.
+// Reads the wires back into `count` blocks of `w` words. Both go beside the words, as in a `Matrix`, which only reads: to divide by `w` would ask that it
+// is not 0.
 pub(crate) fn unload<E: Engine>(
     e: &E,
     cells: &[E::Wire],

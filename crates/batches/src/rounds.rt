@@ -9,6 +9,7 @@ ghost use Rattle.cipher.specs.Places.{unround_by};
 ghost use Rattle.cipher.specs.LowMC.{decrypt as deciphered, encrypt as enciphered, round as rounded};
 ghost use Rattle.engines.specs.Accounts.{Spent};
 ghost use Rattle.batches.specs.Lanes.{lane};
+ghost use Rattle.batches.specs.Batches.{GatesLeft, WiresFor};
 
 use crate::gates::substitute;
 use crate::wires::{add_constant, add_wires, product};
@@ -33,7 +34,7 @@ fn forward<E: Engine>(
     requires keyed { (round.key.height ≡ length state.old) × (length key.now ≤ 64 * round.key.width) }
     requires narrow { value round.constant.now < 2 ^ length state.old }
     requires triples { 3 * m ≤ length state.old }
-    requires gates { (E.acct e.old).done + 3 * m ≤ (E.acct e.old).granted }
+    requires gates { GatesLeft (E.acct e.old) (3 * m) }
     ensures lanes { (j : ℕ) → j < E.lanes → lane j (map E.means state.new) ≡ rounded m (lane j (map E.means key.now)) (rows_in round.entry.layer) (value round.entry.constant.now) (rows_in round.entry.key) (lane j (map E.means state.old)) }
     ensures spent { Spent (E.acct e.old) (3 * m) (E.acct e.new) }
 {
@@ -59,7 +60,7 @@ fn backward<E: Engine>(
     requires keyed { (round.key.height ≡ length state.old) × (length key.now ≤ 64 * round.key.width) }
     requires narrow { value round.constant.now < 2 ^ length state.old }
     requires triples { 3 * m ≤ length state.old }
-    requires gates { (E.acct e.old).done + 3 * m ≤ (E.acct e.old).granted }
+    requires gates { GatesLeft (E.acct e.old) (3 * m) }
     ensures lanes { (j : ℕ) → j < E.lanes → lane j (map E.means state.new) ≡ unround_by m (lane j (map E.means key.now)) (rows_in round.entry.inverse) (value round.entry.constant.now) (rows_in round.entry.key) (lane j (map E.means state.old)) }
     ensures spent { Spent (E.acct e.old) (3 * m) (E.acct e.new) }
 {
@@ -80,8 +81,8 @@ pub(crate) fn encrypt_wires<E: Engine>(
     spare: &mut [E::Wire],
     sums: &mut [E::Wire],
 )
-    requires wires { (length state.old ≡ opened.set.params.n) × (length spare.old ≡ opened.set.params.n) × (length key.now ≡ opened.set.params.k) × (2 ≤ length sums.old) }
-    requires gates { (E.acct e.old).done + gates_of opened.set.params ≤ (E.acct e.old).granted }
+    requires wires { WiresFor opened.set.params state.old spare.old key.now sums.old }
+    requires gates { GatesLeft (E.acct e.old) (gates_of opened.set.params) }
     ensures lanes { (j : ℕ) → j < E.lanes → lane j (map E.means state.new) ≡ enciphered (set_in opened.entry.set.params opened.entry.set.words.now) (lane j (map E.means key.now)) (lane j (map E.means state.old)) }
     ensures spent { Spent (E.acct e.old) (gates_of opened.entry.set.params) (E.acct e.new) }
 {
@@ -103,16 +104,15 @@ pub(crate) fn decrypt_wires<E: Engine>(
     spare: &mut [E::Wire],
     sums: &mut [E::Wire],
 )
-    requires wires { (length state.old ≡ opened.set.params.n) × (length spare.old ≡ opened.set.params.n) × (length key.now ≡ opened.set.params.k) × (2 ≤ length sums.old) }
-    requires gates { (E.acct e.old).done + gates_of opened.set.params ≤ (E.acct e.old).granted }
+    requires wires { WiresFor opened.set.params state.old spare.old key.now sums.old }
+    requires gates { GatesLeft (E.acct e.old) (gates_of opened.set.params) }
     ensures lanes { (j : ℕ) → j < E.lanes → lane j (map E.means state.new) ≡ deciphered (set_in opened.entry.set.params opened.entry.set.words.now) (lane j (map E.means key.now)) (lane j (map E.means state.old)) }
     ensures spent { Spent (E.acct e.old) (gates_of opened.entry.set.params) (E.acct e.new) }
 {
     let set = opened.set;
     let m = set.params.m as usize;
-    let r = set.params.r as usize;
-    for i in 0..r {
-        backward(e, set.round(r - 1 - i), m, key, state, spare, sums);
+    for i in (0..set.params.r as usize).rev() {
+        backward(e, set.round(i), m, key, state, spare, sums);
     }
     product(e, set.first_key(), key, spare, sums);
     add_wires(e, state, spare);

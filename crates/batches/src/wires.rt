@@ -27,10 +27,7 @@ fn group_size(room: usize) -> usize
 fn wire_at<E: Engine>(e: &E, from: &[E::Wire], i: usize) -> E::Wire
     ensures { E.means result ≡ slice_index (map E.means from.now) i }
 {
-    match from.get(i) {
-        Some(wire) => *wire,
-        None => e.enter(0, 0),
-    }
+    from.get(i).copied().unwrap_or_else(|| e.enter(0, 0))
 }
 
 // The sums of the first `b` wires of `from`, for each way to pick among them: entry t has the wires whose bit in t is 1.
@@ -66,6 +63,7 @@ fn add_group<E: Engine>(
     let word = g / in_word;
     let shift = b * (g % in_word);
     let ways: u64 = 1 << b;
+    // No `zip` with the rows: what is written through an adapter of `iter_mut` other than `enumerate` is lost to the proof.
     for (i, wire) in to.iter_mut().enumerate() {
         let pick = (m.row(i)[word] >> shift) % ways;
         *wire = e.add(*wire, sums[pick as usize]);
@@ -99,6 +97,7 @@ pub(crate) fn add_wires<E: Engine>(e: &E, to: &mut [E::Wire], from: &[E::Wire])
     requires { length to.old ≡ length from.now }
     ensures { (v : ℕ) → mul (map E.means to.new) v ≡ bit_xor (mul (map E.means to.old) v) (mul (map E.means from.now) v) }
 {
+    // No `zip`, through which what is written is lost to the proof.
     for (i, wire) in to.iter_mut().enumerate() {
         *wire = e.add(*wire, from[i]);
     }

@@ -56,14 +56,16 @@ fn triple_at(tape: &[u64], j: usize) -> Triple
     requires { 6 * j + 6 ≤ length tape.now }
     ensures { result ≡ triple_of tape.now j }
 {
-    let at = 6 * j;
+    let &[a0, b0, c0, a1, b1, c1] = &tape[6 * j..6 * j + 6] else {
+        unreachable!()
+    };
     Triple {
-        a0: tape[at],
-        b0: tape[at + 1],
-        c0: tape[at + 2],
-        a1: tape[at + 3],
-        b1: tape[at + 4],
-        c1: tape[at + 5],
+        a0,
+        b0,
+        c0,
+        a1,
+        b1,
+        c1,
     }
 }
 
@@ -76,13 +78,12 @@ impl Triple {
     }
 }
 
-// Refuses the first false one of n triples.
-fn check_triples(tape: &[u64], n: usize) -> Result<(), Fault>
-    requires { 6 * n ≤ length tape.now }
-    ensures answer { result ≡ check_from tape.now 0 n }
-    ensures meaning { MatchResult result (λ _. AllTrue tape.now n) (λ f. AllTrue tape.now f.place × (f.place < n) × (IsTrueTriple (triple_of tape.now f.place) → ⊥)) }
+// Refuses the first false triple of a tape.
+fn check_triples(tape: &[u64]) -> Result<(), Fault>
+    ensures answer { result ≡ check_from tape.now 0 (length tape.now / 6) }
+    ensures meaning { MatchResult result (λ _. AllTrue tape.now (length tape.now / 6)) (λ f. AllTrue tape.now f.place × (f.place < length tape.now / 6) × (IsTrueTriple (triple_of tape.now f.place) → ⊥)) }
 {
-    match (0..n).find(|&j| !triple_at(tape, j).is_true()) {
+    match (0..tape.len() / 6).find(|&j| !triple_at(tape, j).is_true()) {
         Some(j) => Err(Fault::at(Refusal::BadTriples, Layer::Engine, j)),
         None => Ok(()),
     }
@@ -126,7 +127,7 @@ impl<'a> ShareEngine<'a> {
         if !tape.len().is_multiple_of(6) || tape.len() > MOST_WORDS {
             return Err(Fault::at(Refusal::BadTriples, Layer::Engine, triples));
         }
-        check_triples(tape, triples)?;
+        check_triples(tape)?;
         self.tape = tape;
         self.ledger = Ledger::new(triples as u32);
         Ok(())

@@ -13,7 +13,8 @@ pub struct Batch<'a, W: Copy> {
     pub cells: Vec<W>,
 }
 
-// What can be asked of an engine: more gates, or a batch in one of the two directions.
+// What can be asked of an engine: more gates, or a batch in one of the two directions. These are two cases, since a call names its direction as the public
+// functions do.
 #[derive(Drop)]
 pub enum Call<'a, W: Copy> {
     Grant(u32),

@@ -9,7 +9,8 @@ use cipher::params::Params;
 use engines::engine::Engine;
 use files::reading::read;
 
-// Runs one list on one engine and the other list on the other, and reads the file; the answer is the file's.
+// Runs one list on one engine and the other list on the other, and reads the file; the answer is the file's. Seven parameters: two engines, two lists, and a
+// file with the memory for it, each lent apart.
 pub fn run_two<E: Engine, F: Engine>(
     first: &mut E,
     list: &mut [Entry<'_, E::Wire>],

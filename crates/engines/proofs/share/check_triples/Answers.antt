@@ -1,4 +1,4 @@
-use Rattle.std.proofs.Common.{◌≡◌, true, false, Err, Some, None, sym, ap, ◌∙◌, arith, rules}
+use Rattle.std.proofs.Common.{◌≡◌, ◌/◌, length, true, false, Err, Some, None, sym, ap, ◌∙◌, arith, rules}
 use borrow.Author.Tests.{tests, eqb-true, eqb-false}
 use Rattle.std.proofs.lemmas.Iterator.{first_from_Range}
 use Rattle.bits.specs.declared.refusal.Fault.{Fault}
@@ -12,7 +12,7 @@ returns-in-Some c =
     let j = c.in-Some.j in
     let found = first_from_Range _ _ _ (Some j) (λ k. truth (triple_of t k) ≡ false) (λ k. truth (triple_of t k) ≡ true) c.in-Some.ensures.ran (λ x q k. search (rules, tests)) (λ x q k. search (rules, tests)) in
     record {
-      answer = ap Err c.at.ensures ∙ sym (first_false t j c.args.n found.1 (λ k. found.3 k (omega arith)) found.2);
+      answer = ap Err c.at.ensures ∙ sym (first_false t j (length t / 6) found.1 (λ k. found.3 k (omega arith)) found.2);
       meaning = rw (ap (λ (f : Fault). f.place) c.at.ensures) (λ k l. eqb-true _ _ (found.3 k (omega arith) l), found.1, eqb-false _ _ found.2);
     }
 
@@ -21,6 +21,6 @@ returns-in-None c =
     let t = c.args.tape.now in
     let found = first_from_Range _ _ _ None (λ k. truth (triple_of t k) ≡ false) (λ k. truth (triple_of t k) ≡ true) c.in-None.ensures.ran (λ x q k. search (rules, tests)) (λ x q k. search (rules, tests)) in
     record {
-      answer = sym (none_false t c.args.n (λ k. found k (omega arith)));
+      answer = sym (none_false t (length t / 6) (λ k. found k (omega arith)));
       meaning = λ k l. eqb-true _ _ (found k (omega arith) l);
     }
