@@ -63,18 +63,10 @@ module _ (p : Params) (ws : List ℕ) (key u : ℕ) where
   pub one_undone : (i s t : ℕ) → 0 < i → i ≤ p.r → inverses_in p ws ≡ map inverse_of (set_in p ws).layers → (r : Round) → PartsOf p ws (i - 1) r
       → t ≡ unround_by p.m key (rows_in r.inverse) (value r.constant.now) (rows_in r.key) s → s ≡ undone_from i → t ≡ undone_from (i - 1)
   one_undone i s t some few true r is e inv =
-      let k : ℕ = p.r - i in
-      let here : i - 1 ≡ p.r - 1 - k = omega arith in
-      let past : i ≡ p.r - k = omega arith in
-      let next : p.r - (k + 1) ≡ i - 1 = omega arith in
-      unrounds_more p ws k p.m key s t u (omega arith) true
-      (unround_at p ws (p.r - 1 - k) r (subst (λ (n : ℕ). PartsOf p ws n r) here is) p.m key s t e) (inv ∙ ap undone_from past)
-      ∙ ap undone_from next
+      unrounds_more p ws i (i - 1) p.m key s t u (omega arith) (omega arith) true (unround_at p ws (i - 1) r is p.m key s t e) inv
 
   pub all_undone : (i s t : ℕ) → i ≡ 0 → s ≡ undone_from i → t ≡ bit_xor s (mul (matrix_at (key_words_of p) p.n (keys_place p) ws) key) → t ≡ decrypt (set_in p ws) key u
-  all_undone i s t none inv e =
-      let past : i ≡ p.r - p.r = omega arith in
-      decrypted p ws p.r key s t u refl (inv ∙ ap undone_from past) e
+  all_undone i s t none inv e = decrypted p ws i key s t u none inv e
 
 -- ---- gates
 
