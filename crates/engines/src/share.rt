@@ -56,9 +56,7 @@ fn triple_at(tape: &[u64], j: usize) -> Triple
     requires { 6 * j + 6 ≤ length tape.now }
     ensures { result ≡ triple_of tape.now j }
 {
-    let &[a0, b0, c0, a1, b1, c1] = &tape[6 * j..6 * j + 6] else {
-        unreachable!()
-    };
+    let [a0, b0, c0, a1, b1, c1] = *tape[6 * j..].first_chunk::<6>().unwrap();
     Triple {
         a0,
         b0,
