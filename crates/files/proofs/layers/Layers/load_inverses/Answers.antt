@@ -9,6 +9,14 @@ use Rattle.files.proofs.Inverting.{each_at, inverses_more, inverted, length_matr
 use Rattle.files.proofs.Pieces.{put_piece}
 use Rattle.files.proofs.layers.Layers.load_inverses.Goals as goal
 
+pub slice_bounds-invert-end : goal.slice_bounds-invert-end
+slice_bounds-invert-end c =
+    let n = c.args.self.now.n in
+    let p = c.words-piece.result in
+    let count = c.args.self.now.count in
+    let is-p : p ≡ n * width_of n = c.words-piece.ensures ∙ ap₂ (λ k b. k * width_of b) c.rows-rows.ensures.0 c.rows-rows.ensures.1 in
+    omega (arith, row_ends c.loop-j.j count p (omega arith), ap (λ k. count * k) is-p)
+
 pub loop-j-preserved : goal.loop-j-preserved
 loop-j-preserved c =
     let n = c.args.self.now.n in
@@ -26,7 +34,7 @@ loop-j-preserved c =
     let inv : Invertible L =
     subst Invertible (matrix_at_is s n count j bs (omega arith))
     (each_at Invertible (matrices_of s n count bs) j [] (omega (arith, length_matrices s n count bs)) c.requires.invertible) in
-    let is : c.invert.new.inverse ≡ flat v (inverse_of L) = inverted v L _ _ _ _ _ inv c.invert.ensures in
+    let is : c.invert.new.inverse ≡ flat v (inverse_of L) = inverted v _ L _ _ _ _ _ c.body.ensures.rows inv c.invert.ensures in
     ap (λ x. take ((j + 1) * x) (put_mid (j * p) (j * p + p - j * p) c.loop-j.out c.invert.new.inverse)) (sym is-p)
     ∙ put_piece p j (j * p + p - j * p) c.loop-j.out c.invert.new.inverse _ _ (omega arith)
     (omega (arith, simp (length-take, length-drop) at c.invert.auto.inverse)) k (ap (λ x. take (j * x) c.loop-j.out) is-p ∙ c.loop-j.invariant) is
