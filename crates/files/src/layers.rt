@@ -33,17 +33,6 @@ impl<'a> Layers<'a> {
         }
     }
 
-    // The body of record `j`.
-    fn body(&self, j: usize) -> &'a [u8]
-        requires { j < self.now.count }
-        ensures size { length result.now ≡ self.now.n * byte_width_of self.now.n }
-        ensures rows { byte_rows (byte_width_of self.now.n) self.now.n result.now ≡ matrix_at (byte_width_of self.now.n) self.now.n j self.now.bytes.now }
-    {
-        let size = self.rows().record_size();
-        let start = j * size;
-        &self.bytes[start + 3..start + size]
-    }
-
     // What `invert` does, with room for the layer.
     fn invert_in(
         &self,
@@ -95,10 +84,11 @@ impl<'a> Layers<'a> {
         requires { 4 ≤ length witness.old }
         ensures { Checked (matrices_of (byte_width_of self.now.n) self.now.n self.now.count self.now.bytes.now) self.now.count witness.old witness.new result }
     {
-        // by number: it is the place of the refusal
-        for j in 0..usize::from(self.count) {
+        let size = self.rows().record_size();
+        let records = self.bytes[..usize::from(self.count) * size].chunks_exact(size);
+        for (j, record) in records.enumerate() {
             let mut vector = [0u64; 4];
-            if let Err(Singular) = self.check_layer(self.body(j), &mut vector) {
+            if let Err(Singular) = self.check_layer(&record[3..], &mut vector) {
                 witness[..4].copy_from_slice(&vector);
                 return Err(Fault::at(Refusal::LayerCollapses, Layer::Set, j + 1));
             }
@@ -114,11 +104,13 @@ impl<'a> Layers<'a> {
     {
         let rows = self.rows();
         let (w, piece) = (rows.width(), rows.words());
-        // by index: what is written through `chunks_exact_mut` is lost to the proof
-        for j in 0..usize::from(self.count) {
+        let size = rows.record_size();
+        let records = self.bytes[..usize::from(self.count) * size].chunks_exact(size);
+        for (j, record) in records.enumerate() {
             let mut vector = [0u64; 4];
+            // by index: what is written through `chunks_exact_mut` is lost to the proof
             let to = j * piece;
-            let _ = self.invert(self.body(j), &mut out[to..to + piece], &mut vector[..w]);
+            let _ = self.invert(&record[3..], &mut out[to..to + piece], &mut vector[..w]);
         }
     }
 }
