@@ -9,7 +9,7 @@ use Rattle.bits.proofs.Inverse.{not_both}
 use Rattle.bits.proofs.Vectors.{rows_flat}
 use Rattle.cipher.specs.Sets.{Each, joined}
 use Rattle.files.specs.Format.{byte_rows, byte_value, matrices_of, record_size}
-use Rattle.files.specs.Preparing.{Inverting, Tried, matrix_at}
+use Rattle.files.specs.Preparing.{Inverting, Tried}
 use Rattle.cipher.specs.Laws.{Invertible}
 use Rattle.files.proofs.Pieces.{Bytes, bytes_drop, joined_more, matrices_more}
 
@@ -43,6 +43,10 @@ inverting w n L layer out out' vec vec' r is size narrow o = go r o
       o.kept,
     )
     go (Err e) o = (subst (λ (M : List ℕ). Witness M (value vec')) back o.witness, o.kept)
+
+-- the matrix of record j of those that stand one after another
+abbrev pub matrix_at : ℕ → ℕ → ℕ → List ℕ → List ℕ
+matrix_at c count j bs = byte_rows c count (drop (j * record_size c count + 3) bs)
 
 -- ---- one layer more
 

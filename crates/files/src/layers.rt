@@ -1,9 +1,9 @@
 // Layers of a file: whether each can be inverted, and their inverses as words.
-ghost use Rattle.std.specs.Prelude.{◌≡◌, ℕ, ◌+◌, ◌*◌, ◌<◌, ◌≤◌, map, length, replicate};
+ghost use Rattle.std.specs.Prelude.{◌≡◌, ℕ, ◌*◌, ◌≤◌, map, length, replicate};
 ghost use Rattle.bits.specs.Gf2.{flat, inverse_of, width_of};
 ghost use Rattle.cipher.specs.Sets.{Each, joined};
 ghost use Rattle.files.specs.Format.{byte_rows, byte_width_of, matrices_of, record_size as size_in_file};
-ghost use Rattle.files.specs.Preparing.{Checked, Inverting, Tried, matrix_at};
+ghost use Rattle.files.specs.Preparing.{Checked, Inverting, Tried};
 ghost use Rattle.cipher.specs.Laws.{Invertible};
 
 use crate::rows::Rows;
@@ -76,7 +76,11 @@ impl<'a> Layers<'a> {
     {
         let mut inverse = [0u64; 1024];
         let rows = self.rows();
-        self.invert(body, &mut inverse[..rows.words()], &mut vector[..rows.width()])
+        self.invert(
+            body,
+            &mut inverse[..rows.words()],
+            &mut vector[..rows.width()],
+        )
     }
 
     // Whether each can be inverted; a witness is written where one cannot.

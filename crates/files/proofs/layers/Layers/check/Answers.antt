@@ -8,9 +8,8 @@ use Rattle.bits.specs.Gf2.{Witness}
 use Rattle.cipher.specs.Sets.{Each}
 use Rattle.cipher.specs.Laws.{Invertible}
 use Rattle.files.specs.Format.{byte_rows, byte_width_of, matrices_of, record_size}
-use Rattle.files.specs.Preparing.{matrix_at}
 use Rattle.files.proofs.Chunks.{Come, body_at, come_end, come_turn}
-use Rattle.files.proofs.Inverting.{each_more, matrix_at_is}
+use Rattle.files.proofs.Inverting.{each_more, matrix_at, matrix_at_is}
 use Rattle.files.proofs.layers.Layers.check.Goals as goal
 
 pub returns-in-Err : goal.returns-in-Err

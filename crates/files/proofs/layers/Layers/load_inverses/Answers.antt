@@ -6,10 +6,9 @@ use Rattle.bits.specs.Gf2.{flat, inverse_of, width_of}
 use Rattle.bits.proofs.Vectors.{row_ends}
 use Rattle.cipher.specs.Sets.{joined}
 use Rattle.files.specs.Format.{byte_rows, byte_width_of, matrices_of, record_size}
-use Rattle.files.specs.Preparing.{matrix_at}
 use Rattle.cipher.specs.Laws.{Invertible}
 use Rattle.files.proofs.Chunks.{Come, body_at, come_end, come_turn}
-use Rattle.files.proofs.Inverting.{each_at, inverses_more, inverted, length_matrices, matrix_at_is}
+use Rattle.files.proofs.Inverting.{each_at, inverses_more, inverted, length_matrices, matrix_at, matrix_at_is}
 use Rattle.files.proofs.Pieces.{all_written, put_piece}
 use Rattle.files.proofs.layers.Layers.load_inverses.Goals as goal
 
