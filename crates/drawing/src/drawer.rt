@@ -47,6 +47,7 @@ mod tests {
     use crate::grain::GrainSource;
     use crate::tape::TapeSource;
     use bits::matrix::{Matrix, product};
+    use std::process::Abort;
     use std::test::Fail;
 
     const SMALL: Params = Params {
@@ -58,21 +59,31 @@ mod tests {
 
     // Each word is `by`, but the last, which is 7.
     fn all_but_the_last(words: &[u64], by: u64) -> bool {
-        match words.split_last() {
-            Some((last, rest)) => *last == 7 && rest.iter().all(|word| *word == by),
-            None => false,
-        }
+        words.split_last().is_some_and(|(last, rest)| *last == 7
+            && rest.iter().all(|word| *word == by))
+    }
+
+    // Draws what is refused with this number and place, which leaves each word but the last as `by`.
+    fn refused(
+        rt: &impl Abort,
+        params: Params,
+        source: &mut TapeSource<'_>,
+        words: &mut [u64],
+        (number, place): (u8, u64),
+        by: u64,
+    ) -> Result<(), Fail> {
+        let fault = draw(params, source, words).err().ok_or("drawn")?;
+        assert_eq!(rt; fault.refusal.number(), number);
+        assert_eq!(rt; fault.place, place);
+        assert!(rt; all_but_the_last(words, by));
+        Ok(())
     }
 
     #[test]
     fn runs_dry(rt: HostRuntime) -> Result<(), Fail> {
         let mut words = [7u64; 14];
         let mut source = TapeSource::new(&[0]);
-        let fault = draw(SMALL, &mut source, &mut words).err().ok_or("drawn")?;
-        assert_eq!(rt; fault.refusal.number(), 16);
-        assert_eq!(rt; fault.place, 8);
-        assert!(rt; all_but_the_last(&words, 0));
-        Ok(())
+        refused(&rt, SMALL, &mut source, &mut words, (16, 8), 0)
     }
 
     #[test]
@@ -80,12 +91,9 @@ mod tests {
         let mut words = [7u64; 14];
         let bytes = [0u8; 287];
         let mut source = TapeSource::new(&bytes);
-        let fault = draw(SMALL, &mut source, &mut words).err().ok_or("drawn")?;
-        assert_eq!(rt; fault.refusal.number(), 17);
-        assert_eq!(rt; fault.place, 2295);
+        refused(&rt, SMALL, &mut source, &mut words, (17, 2295), 0)?;
         assert!(rt; source.next().is_some());
         assert!(rt; source.next().is_none());
-        assert!(rt; all_but_the_last(&words, 0));
         Ok(())
     }
 
@@ -99,22 +107,15 @@ mod tests {
             m: 1,
             r: 1,
         };
-        let fault = draw(narrow, &mut source, &mut words).err().ok_or("drawn")?;
-        assert_eq!(rt; fault.refusal.number(), 15);
-        assert_eq!(rt; fault.place, 0);
-        assert!(rt; all_but_the_last(&words, 7));
-        Ok(())
+        refused(&rt, narrow, &mut source, &mut words, (15, 0), 7)
     }
 
     #[test]
     fn needs_room(rt: HostRuntime) -> Result<(), Fail> {
         let mut words = [7u64; 12];
         let mut source = TapeSource::new(&[1]);
-        let fault = draw(SMALL, &mut source, &mut words).err().ok_or("drawn")?;
-        assert_eq!(rt; fault.refusal.number(), 2);
-        assert_eq!(rt; fault.place, 13);
+        refused(&rt, SMALL, &mut source, &mut words, (2, 13), 7)?;
         assert!(rt; source.next() == Some(1));
-        assert!(rt; all_but_the_last(&words, 7));
         Ok(())
     }
 

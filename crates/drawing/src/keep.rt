@@ -26,7 +26,7 @@ pub(crate) trait Keep {
         ensures holds { result ≡ true → holds self.new (rows_in m.entry) };
 }
 
-// A layer is kept that has an inverse, which is held.
+// A layer is kept that has an inverse, which is held: no heap here, so as many words as the widest layer has, 256 rows of 4.
 #[derive(Drop)]
 pub(crate) struct Inverting {
     pub(crate) inverse: [u64; 1024],

@@ -10,7 +10,8 @@ use bits::matrix::Matrix;
 use bits::refusal::{Fault, Layer, Refusal};
 use bits::words::width;
 
-// A source that is drawn from, and how many bits were taken of it.
+// A source that is drawn from, and how many bits were taken of it. Each function that is lent one says `same`: that its source is at the end the
+// reference that it was at the start is a fact of two times, which no field can say. `many` and `wide`: a size is a number, and brings no limit with it.
 #[derive(Drop)]
 pub(crate) struct Drawer<'s, S> {
     pub(crate) source: &'s mut S,

@@ -76,6 +76,7 @@ pub(crate) fn draw_parts<S: BitSource>(
     let k = params.k as usize;
     let r = params.r as usize;
     let layer = n * params.block_words();
+    // by sizes, where cipher has places for a set that is read: `split_at_mut` lends all four parts at once, to be written
     let (layers, rest) = words.split_at_mut(r * layer);
     let (constants, rest) = rest.split_at_mut(r * params.block_words());
     let (keys, inverses) = rest.split_at_mut((r + 1) * (n * params.key_words()));

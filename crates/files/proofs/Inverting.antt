@@ -9,7 +9,7 @@ use Rattle.bits.proofs.Inverse.{not_both}
 use Rattle.bits.proofs.Vectors.{rows_flat}
 use Rattle.cipher.specs.Sets.{Each, joined}
 use Rattle.files.specs.Format.{byte_rows, byte_value, matrices_of, record_size}
-use Rattle.files.specs.Preparing.{Inverting, Tried, matrix_at}
+use Rattle.files.specs.Preparing.{Inverting, Tried}
 use Rattle.cipher.specs.Laws.{Invertible}
 use Rattle.files.proofs.Pieces.{Bytes, bytes_drop, joined_more, matrices_more}
 
@@ -43,6 +43,10 @@ inverting w n L layer out out' vec vec' r is size narrow o = go r o
       o.kept,
     )
     go (Err e) o = (subst (λ (M : List ℕ). Witness M (value vec')) back o.witness, o.kept)
+
+-- the matrix of record j of those that stand one after another
+abbrev pub matrix_at : ℕ → ℕ → ℕ → List ℕ → List ℕ
+matrix_at c count j bs = byte_rows c count (drop (j * record_size c count + 3) bs)
 
 -- ---- one layer more
 
@@ -114,7 +118,10 @@ matrix_at_is c n (suc count) (suc j) bs h =
     matrix_at_is c n count j (drop (record_size c n) bs) (omega arith)
     ∙ ap (byte_rows c n) (drop-drop (j * record_size c n + 3) (record_size c n) bs ∙ ap (λ (k : ℕ). drop k bs) e)
 
--- what is written where a layer is known not to collapse
-pub inverted : (w : ℕ) (L out out' vec vec' : List ℕ) (r : Result Unit Singular) → Invertible L → Inverting w L out out' vec vec' r → out' ≡ flat w (inverse_of L)
-inverted w L out out' vec vec' (Ok u) inv i = i.1
-inverted w L out out' vec vec' (Err e) inv i = absurd (not_both L (inverse_of L) inv (value vec', i.0))
+-- what is written where a layer, in the rows M of its record, is known not to collapse
+written : (w : ℕ) (L out out' vec vec' : List ℕ) (r : Result Unit Singular) → Invertible L → Inverting w L out out' vec vec' r → out' ≡ flat w (inverse_of L)
+written w L out out' vec vec' (Ok u) inv i = i.1
+written w L out out' vec vec' (Err e) inv i = absurd (not_both L (inverse_of L) inv (value vec', i.0))
+
+pub inverted : (w : ℕ) (M L out out' vec vec' : List ℕ) (r : Result Unit Singular) → M ≡ L → Invertible L → Inverting w M out out' vec vec' r → out' ≡ flat w (inverse_of L)
+inverted w M L out out' vec vec' r e inv i = written w L out out' vec vec' r inv (subst (λ (N : List ℕ). Inverting w N out out' vec vec' r) e i)

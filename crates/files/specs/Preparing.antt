@@ -1,5 +1,5 @@
 -- Inverting the layers of a file.
-use Rattle.std.specs.Prelude.{◌≡◌, ℕ, ◌+◌, ◌*◌, ◌<◌, List, [], ◌++◌, drop, Ok, Err, Result, slice_index_or}
+use Rattle.std.specs.Prelude.{◌≡◌, ℕ, ◌+◌, ◌<◌, List, [], ◌++◌, drop, Ok, Err, Result, slice_index_or}
 use Rattle.bits.specs.declared.elimination.Singular.{Singular}
 use Rattle.bits.specs.declared.refusal.Refusal.TheVariants.{LayerCollapses}
 use Rattle.bits.specs.declared.refusal.Layer.TheVariants.{Set as SetLayer}
@@ -7,12 +7,7 @@ use Rattle.bits.specs.declared.refusal.Fault.{Fault}
 use Rattle.bits.specs.Refusals.{fault_at}
 use Rattle.bits.specs.Gf2.{Witness, flat, inverse_of, value, words_of}
 use Rattle.cipher.specs.Sets.{Each}
-use Rattle.files.specs.Format.{byte_rows, record_size}
 use Rattle.cipher.specs.Laws.{Invertible}
-
--- the matrix of record j of those that stand one after another
-abbrev pub matrix_at : ℕ → ℕ → ℕ → List ℕ → List ℕ
-matrix_at c count j bs = byte_rows c count (drop (j * record_size c count + 3) bs)
 
 -- the inverse of L is written, w words a row; or a vector that L sends to zero is
 abbrev pub Inverting : ℕ → List ℕ → List ℕ → List ℕ → List ℕ → List ℕ → Result Unit Singular → Type 0

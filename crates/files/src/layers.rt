@@ -1,9 +1,9 @@
 // Layers of a file: whether each can be inverted, and their inverses as words.
-ghost use Rattle.std.specs.Prelude.{◌≡◌, ℕ, ◌+◌, ◌*◌, ◌<◌, ◌≤◌, map, length, replicate, take, drop};
+ghost use Rattle.std.specs.Prelude.{◌≡◌, ℕ, ◌*◌, ◌≤◌, map, length, replicate};
 ghost use Rattle.bits.specs.Gf2.{flat, inverse_of, width_of};
 ghost use Rattle.cipher.specs.Sets.{Each, joined};
-ghost use Rattle.files.specs.Format.{byte_width_of, matrices_of, record_size as size_in_file};
-ghost use Rattle.files.specs.Preparing.{Checked, Inverting, Tried, matrix_at};
+ghost use Rattle.files.specs.Format.{byte_rows, byte_width_of, matrices_of, record_size as size_in_file};
+ghost use Rattle.files.specs.Preparing.{Checked, Inverting, Tried};
 ghost use Rattle.cipher.specs.Laws.{Invertible};
 
 use crate::rows::Rows;
@@ -33,32 +33,22 @@ impl<'a> Layers<'a> {
         }
     }
 
-    // The body of record `j`.
-    fn body(&self, j: usize) -> &'a [u8]
-        requires { j < self.now.count }
-        ensures { result.now ≡ take (self.now.n * byte_width_of self.now.n) (drop (j * size_in_file (byte_width_of self.now.n) self.now.n + 3) self.now.bytes.now) }
-    {
-        let size = self.rows().record_size();
-        let start = j * size;
-        &self.bytes[start + 3..start + size]
-    }
-
     // What `invert` does, with room for the layer.
     fn invert_in(
         &self,
-        j: usize,
+        body: &[u8],
         layer: &mut [u64],
         inverse: &mut [u64],
         vector: &mut [u64],
     ) -> Result<(), Singular>
-        requires place { j < self.now.count }
+        requires body { length body.now ≡ self.now.n * byte_width_of self.now.n }
         requires width { length vector.old ≡ width_of self.now.n }
         requires layer { length layer.old ≡ self.now.n * width_of self.now.n }
         requires room { length inverse.old ≡ self.now.n * width_of self.now.n }
-        ensures { Inverting (width_of self.now.n) (matrix_at (byte_width_of self.now.n) self.now.n j self.now.bytes.now) inverse.old inverse.new vector.old vector.new result }
+        ensures { Inverting (width_of self.now.n) (byte_rows (byte_width_of self.now.n) self.now.n body.now) inverse.old inverse.new vector.old vector.new result }
     {
         let rows = self.rows();
-        rows.load(self.body(j), layer);
+        rows.load(body, layer);
         invert(
             Matrix::new(layer, rows.width(), self.n.into()),
             inverse,
@@ -66,27 +56,31 @@ impl<'a> Layers<'a> {
         )
     }
 
-    // Inverts the layer in record `j`.
-    fn invert(&self, j: usize, inverse: &mut [u64], vector: &mut [u64]) -> Result<(), Singular>
-        requires place { j < self.now.count }
+    // Inverts the layer in a record's body.
+    fn invert(&self, body: &[u8], inverse: &mut [u64], vector: &mut [u64]) -> Result<(), Singular>
+        requires body { length body.now ≡ self.now.n * byte_width_of self.now.n }
         requires width { length vector.old ≡ width_of self.now.n }
         requires room { length inverse.old ≡ self.now.n * width_of self.now.n }
-        ensures { Inverting (width_of self.now.n) (matrix_at (byte_width_of self.now.n) self.now.n j self.now.bytes.now) inverse.old inverse.new vector.old vector.new result }
+        ensures { Inverting (width_of self.now.n) (byte_rows (byte_width_of self.now.n) self.now.n body.now) inverse.old inverse.new vector.old vector.new result }
     {
         let mut layer = [0u64; 1024];
         let used = inverse.len();
-        self.invert_in(j, &mut layer[..used], inverse, vector)
+        self.invert_in(body, &mut layer[..used], inverse, vector)
     }
 
-    // Whether the layer in record `j` can be inverted; where it cannot, `vector` becomes a witness.
-    fn check_layer(&self, j: usize, vector: &mut [u64]) -> Result<(), Singular>
-        requires place { j < self.now.count }
+    // Whether the layer in a record's body can be inverted; where it cannot, `vector` becomes a witness.
+    fn check_layer(&self, body: &[u8], vector: &mut [u64]) -> Result<(), Singular>
+        requires body { length body.now ≡ self.now.n * byte_width_of self.now.n }
         requires zeros { vector.old ≡ replicate 4 0 }
-        ensures { Tried (matrix_at (byte_width_of self.now.n) self.now.n j self.now.bytes.now) vector.new result }
+        ensures { Tried (byte_rows (byte_width_of self.now.n) self.now.n body.now) vector.new result }
     {
         let mut inverse = [0u64; 1024];
         let rows = self.rows();
-        self.invert(j, &mut inverse[..rows.words()], &mut vector[..rows.width()])
+        self.invert(
+            body,
+            &mut inverse[..rows.words()],
+            &mut vector[..rows.width()],
+        )
     }
 
     // Whether each can be inverted; a witness is written where one cannot.
@@ -94,10 +88,11 @@ impl<'a> Layers<'a> {
         requires { 4 ≤ length witness.old }
         ensures { Checked (matrices_of (byte_width_of self.now.n) self.now.n self.now.count self.now.bytes.now) self.now.count witness.old witness.new result }
     {
-        // by number: it is the place of the refusal
-        for j in 0..usize::from(self.count) {
+        let size = self.rows().record_size();
+        let records = self.bytes[..usize::from(self.count) * size].chunks_exact(size);
+        for (j, record) in records.enumerate() {
             let mut vector = [0u64; 4];
-            if let Err(Singular) = self.check_layer(j, &mut vector) {
+            if let Err(Singular) = self.check_layer(&record[3..], &mut vector) {
                 witness[..4].copy_from_slice(&vector);
                 return Err(Fault::at(Refusal::LayerCollapses, Layer::Set, j + 1));
             }
@@ -113,11 +108,13 @@ impl<'a> Layers<'a> {
     {
         let rows = self.rows();
         let (w, piece) = (rows.width(), rows.words());
-        // by index: what is written through `chunks_exact_mut` is lost to the proof
-        for j in 0..usize::from(self.count) {
+        let size = rows.record_size();
+        let records = self.bytes[..usize::from(self.count) * size].chunks_exact(size);
+        for (j, record) in records.enumerate() {
             let mut vector = [0u64; 4];
+            // by index: what is written through `chunks_exact_mut` is lost to the proof
             let to = j * piece;
-            let _ = self.invert(j, &mut out[to..to + piece], &mut vector[..w]);
+            let _ = self.invert(&record[3..], &mut out[to..to + piece], &mut vector[..w]);
         }
     }
 }

@@ -24,12 +24,12 @@ pub enum Mark {
 #[derive(Clone, Copy)]
 pub struct Record<'a> {
     pub mark: Mark,
-    pub number: u8,
+    pub number: u8, // 0 where the mark has none, as `step` promises: a value that may be missing would be another promise
     pub offset: usize,
     pub body: &'a [u8],
 }
 
-// A reader and where it stands. The parameters are zero until the header is read.
+// A reader and where it stands. The parameters are zeros until the header is read, as `new` and `params` promise: an `Option` would be another promise.
 #[derive(Drop)]
 pub struct Reader<'a> {
     file: &'a [u8],
@@ -70,7 +70,7 @@ impl Mark {
         }
     }
 
-    // Bytes of a record's body.
+    // Bytes of a record's body. Not by `Rows`: those ask for at least one bit, and the parameters before the header are zeros.
     fn body_size(self, params: Params) -> usize
         ensures { result ≡ body_size_of params self }
     {
@@ -84,7 +84,7 @@ impl Mark {
         }
     }
 
-    // What is due after the last record of a mark, and the number that it has.
+    // What is due after the last record of a mark, and the number that it has, or 0: the laws of the reader have a number for each state.
     fn next(self) -> (Option<Mark>, u16)
         ensures { result ≡ next_of self }
     {
@@ -192,7 +192,8 @@ impl<'a> Reader<'a> {
         rows.look(body, at + 3)
     }
 
-    // What is wrong with the record due, if it is one of a series, as far as it is there.
+    // What is wrong with the record due, if it is one of a series, as far as it is there. Two marks have no rows: rows by mark, for here and for the reading of
+    // a set, would come as an `Option`, which where the mark is known could never be none.
     fn look(&self) -> Result<(), Fault>
         requires { Sound self.now.file.now (state_of self.now) }
         ensures { result ≡ look_of self.now.file.now (state_of self.now) }

@@ -1,8 +1,7 @@
 use Rattle.std.proofs.Common.{◌≡◌, ◌≤◌, ◌++◌, length, drop, ap, ◌∙◌, ap₂, arith}
 use Rattle.std.proofs.lemmas.List.{length-take-le}
 use Rattle.bits.specs.Gf2.{width_of}
-use Rattle.files.specs.Format.{byte_width_of}
-use Rattle.files.specs.Preparing.{matrix_at}
+use Rattle.files.specs.Format.{byte_rows, byte_width_of}
 use Rattle.files.proofs.Inverting.{tried, words_front}
 use Rattle.files.proofs.layers.Layers.check_layer.Goals as goal
 
@@ -14,6 +13,6 @@ returns c =
     let four : w ≤ 4 = omega arith in
     let size : length c.args.vector.now ≡ 4 = ap length c.requires.zeros in
     let part : length c.invert.new.vector ≡ w = c.invert.auto.vector ∙ length-take-le _ _ (omega arith) ∙ is in
-    tried w (matrix_at (byte_width_of n) n c.args.j c.args.self.now.bytes.now) _ _ _ c.invert.new.vector _ c.invert.result part four
+    tried w (byte_rows (byte_width_of n) n c.args.body.now) _ _ _ c.invert.new.vector _ c.invert.result part four
     (words_front c.invert.new.vector (drop c.width.result c.args.vector.now) (λ k. omega (arith, c.type_inv.vector k)))
     (ap₂ (λ k xs. c.invert.new.vector ++ drop k xs) is c.requires.zeros) c.invert.ensures

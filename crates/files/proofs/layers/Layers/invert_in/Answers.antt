@@ -1,9 +1,9 @@
-use Rattle.std.proofs.Common.{◌≡◌, ◌+◌, ◌*◌, take, drop, ap, ◌∙◌, subst, ap₂}
+use Rattle.std.proofs.Common.{◌≡◌, ◌*◌, ap, ◌∙◌, subst, ap₂}
 use Rattle.bits.specs.Gauss.{Outcome}
 use Rattle.bits.specs.Gf2.{Below, flat, width_of}
-use Rattle.files.specs.Format.{byte_rows, byte_width_of, record_size}
+use Rattle.files.specs.Format.{byte_rows, byte_width_of}
 use Rattle.files.proofs.Inverting.{inverting}
-use Rattle.files.proofs.Pieces.{byte_rows_take, length_byte_rows}
+use Rattle.files.proofs.Pieces.{length_byte_rows}
 use Rattle.files.proofs.layers.Layers.invert_in.Goals as goal
 
 pub returns : goal.returns
@@ -13,17 +13,14 @@ returns c =
     let w = width_of n in
     let rows = c.rows-rows.result in
     let m = c.new.result in
-    let body = c.body.result.now in
+    let body = c.args.body.now in
     let out = c.load.new.out in
-    let at = drop (c.args.j * record_size s n + 3) c.args.self.now.bytes.now in
     let form : (rows.count ≡ n) × (rows.bits ≡ n) = c.rows-rows.ensures in
-    let part : body ≡ take (n * s) at = c.body.ensures in
-    let read : byte_rows (byte_width_of rows.bits) rows.count body ≡ byte_rows s n at =
-    ap₂ (λ b k. byte_rows (byte_width_of b) k body) form.1 form.0 ∙ ap (byte_rows s n) part ∙ byte_rows_take s n at in
+    let read : byte_rows (byte_width_of rows.bits) rows.count body ≡ byte_rows s n body = ap₂ (λ b k. byte_rows (byte_width_of b) k body) form.1 form.0 in
     let width : m.width ≡ w = c.new.ensures.shape.0 ∙ c.width.ensures ∙ ap width_of form.1 in
     let height : m.height ≡ n = c.new.ensures.shape.1 ∙ c.into.ensures in
-    inverting w n (byte_rows s n at) out c.args.inverse.now c.invert.new.inverse c.args.vector.now c.invert.new.witness c.invert.result
-    (c.load.ensures.written ∙ ap₂ (λ b xs. flat (width_of b) xs) form.1 read) (length_byte_rows s n at)
+    inverting w n (byte_rows s n body) out c.args.inverse.now c.invert.new.inverse c.args.vector.now c.invert.new.witness c.invert.result
+    (c.load.ensures.written ∙ ap₂ (λ b xs. flat (width_of b) xs) form.1 read) (length_byte_rows s n body)
     (subst (Below (64 * w)) read (subst (λ b. Below (64 * width_of b) (byte_rows (byte_width_of rows.bits) rows.count body)) form.1 c.load.ensures.fit))
     (subst (λ v. Outcome v n out c.args.inverse.now c.invert.new.inverse c.args.vector.now c.invert.new.witness c.invert.result) width
     (subst (λ k. Outcome m.width k out c.args.inverse.now c.invert.new.inverse c.args.vector.now c.invert.new.witness c.invert.result) height
