@@ -3,9 +3,7 @@ use cipher::params::Params;
 use drawing::drawer::draw;
 use drawing::source::BitSource;
 use std::{fmt, io};
-
-// As many words are lent at most.
-const MOST_WORDS: usize = 8192;
+use trial::{Refused, SET_WORDS};
 
 // What a source gives when it is asked, or `-` where it is dry.
 fn print_next(rt: &HostRuntime, next: Option<u8>) -> io::Result<()> {
@@ -36,11 +34,11 @@ pub(crate) fn answer_drawn<S: BitSource>(
     room: usize,
     source: &mut S,
 ) -> io::Result<()> {
-    let mut words = [7u64; MOST_WORDS];
-    let lent = &mut words[..room.min(MOST_WORDS)];
+    let mut words = [7u64; SET_WORDS];
+    let lent = &mut words[..room.min(SET_WORDS)];
     match draw(params, source, lent) {
         Ok(taken) => print!(rt; "OK {taken}")?,
-        Err(fault) => print!(rt; "NO {} {}", fault.refusal, fault.place)?,
+        Err(fault) => print!(rt; "{}", Refused(fault))?,
     }
     print_next(rt, source.next())?;
     println!(rt; "{}", Words(lent))

@@ -19,7 +19,7 @@ use drawing::tape::TapeSource;
 use drawn::answer_drawn;
 use input::read_front;
 use std::io;
-use trial::{FRONT_BYTES, MOST_FILE_BYTES, Trial};
+use trial::{FRONT_BYTES, MOST_FILE_BYTES, Trial, Verdict};
 
 // How much of the input is looked at: the kind, and for the cipher a key, a block and a file.
 const MOST_BYTES: usize = 1 + FRONT_BYTES + MOST_FILE_BYTES;
@@ -32,10 +32,7 @@ fn cipher_case(rt: &HostRuntime, rest: &[u8]) -> io::Result<()> {
     let Some((front, file)) = rest.split_at_checked(FRONT_BYTES) else {
         return print_none(rt);
     };
-    match Trial::of(front, file).answer() {
-        Ok(answer) => println!(rt; "{answer}"),
-        Err(fault) => println!(rt; "NO {} {}", fault.refusal, fault.place),
-    }
+    println!(rt; "{}", Verdict(Trial::of(front, file).answer()))
 }
 
 fn drawing_case(rt: &HostRuntime, rest: &[u8]) -> io::Result<()> {

@@ -2,19 +2,19 @@
 // set of its own from the Grain source and does the same with that.
 #![tactic(auto)]
 
+use arrayvec::ArrayVec;
 use bits::refusal::Fault;
 use cipher::instance::Instance;
 use cipher::params::Params;
 use drawing::drawer::draw;
 use drawing::grain::GrainSource;
-use files::reading::read;
+use files::reading::{WITNESS_WORDS, read};
+use files::report::MOST_BYTES;
 use input::read_front;
 use std::io;
 use thiserror::Error;
 
-// How much of the input is looked at, and the words that there are for the set.
-const MOST_BYTES: usize = 65536;
-
+// The words that there are for the set.
 const SET_WORDS: usize = 8192;
 
 // A set for one sitting: small enough to be drawn at once.
@@ -60,15 +60,16 @@ fn show_opened(rt: &HostRuntime, params: Params, words: &[u64]) -> Result<(), St
     let mut held = Instance::empty();
     held.open(params, words)?;
     println!(rt; "opened")?;
-    let key = [1u64, 0, 0, 0];
-    let mut block = [1u64, 0, 0, 0];
-    let (w, v) = (params.block_words().min(4), params.key_words().min(4));
-    show_block(rt, &held, &key[..v], &mut block[..w])
+    let mut key = ArrayVec::from([1u64, 0, 0, 0]);
+    let mut block = ArrayVec::from([1u64, 0, 0, 0]);
+    key.truncate(params.key_words());
+    block.truncate(params.block_words());
+    show_block(rt, &held, &key, &mut block)
 }
 
 fn show_set(rt: &HostRuntime, file: &[u8]) -> Result<(), Stop> {
     let mut words = [0u64; SET_WORDS];
-    let mut witness = [0u64; 4];
+    let mut witness = [0u64; WITNESS_WORDS];
     let p = read(file, &mut words, &mut witness)?;
     println!(rt;
         "read: {} block bits, {} key bits, {} triples, {} rounds, {} AND gates",

@@ -3,7 +3,7 @@
 #![tactic(auto)]
 
 use input::read_front;
-use trial::{FRONT_BYTES, MOST_FILE_BYTES, Trial};
+use trial::{FRONT_BYTES, MOST_FILE_BYTES, Trial, Verdict};
 
 // How much of the input is looked at: a key, a block and a file.
 const MOST_BYTES: usize = FRONT_BYTES + MOST_FILE_BYTES;
@@ -15,9 +15,6 @@ fn main(rt: HostRuntime) -> anyhow::Result<()> {
     let (front, file) = input
         .split_at_checked(FRONT_BYTES)
         .unwrap_or((&[0; FRONT_BYTES], &[]));
-    match Trial::of(front, file).answer() {
-        Ok(answer) => println!(rt; "{answer}")?,
-        Err(fault) => println!(rt; "NO {} {}", fault.refusal, fault.place)?,
-    }
+    println!(rt; "{}", Verdict(Trial::of(front, file).answer()))?;
     Ok(())
 }

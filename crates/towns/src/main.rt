@@ -2,6 +2,7 @@
 // codes are compared, and the cards are not.
 #![tactic(auto)]
 
+use anyhow::Context;
 use batches::batch::encrypt;
 use cipher::instance::Instance;
 use cipher::params::Params;
@@ -10,7 +11,7 @@ use drawing::grain::GrainSource;
 use engines::engine::Engine;
 use engines::share::ShareEngine;
 use noise::Noise;
-use std::alloc::{AllocError, Global};
+use std::alloc::Global;
 
 // Cards of 24 bits, and keys as wide.
 const PARAMS: Params = Params {
@@ -27,22 +28,17 @@ const NORTH: [u64; 6] = [1_204_417, 77, 9_000_001, 16_777_215, 31_337, 5];
 
 const SOUTH: [u64; 7] = [31_337, 2, 16_777_215, 640_000, 77, 4_242, 1_204_417];
 
-// Cells for wires, with 0 in every lane.
-fn cells<E: Engine>(heap: Global, engine: &E, count: usize) -> Result<Vec<E::Wire>, AllocError> {
-    (0..count).map(|_| engine.enter(0, 0)).collect(heap)
-}
-
-// The codes of a town's cards, in one batch.
-fn codes<E: Engine>(
+// The codes of a town's cards, in one batch, whose cells carry 0 in every lane.
+fn codes(
     heap: Global,
-    engine: &mut E,
+    engine: &mut ShareEngine,
     held: &Instance,
     cards: &[u64],
     masks: &[u64],
 ) -> anyhow::Result<Vec<u64>> {
     let mut blocks = cards.to_vec(heap)?;
     let keys = vec![in heap; KEY; cards.len()]?;
-    let mut wires = cells(heap, engine, 96)?;
+    let mut wires = vec![in heap; engine.enter(0, 0); 96]?;
     encrypt(
         engine,
         held,
@@ -51,7 +47,8 @@ fn codes<E: Engine>(
         &keys,
         masks,
         &mut wires,
-    )?;
+    )
+    .context("a batch was refused")?;
     Ok(blocks)
 }
 
@@ -77,8 +74,8 @@ fn compare(rt: &HostRuntime, held: &Instance) -> anyhow::Result<()> {
     let tape = noise.triples(heap, 128)?;
     let hidden = noise.words(heap, 48)?;
     let mut engine = ShareEngine::empty();
-    engine.fill(&tape)?;
-    engine.grant(128)?;
+    engine.fill(&tape).context("the triples were refused")?;
+    engine.grant(128).context("the gates were refused")?;
     let north = codes(heap, &mut engine, held, &NORTH, &hidden)?;
     let south = codes(heap, &mut engine, held, &SOUTH, &hidden)?;
     println!(rt;
@@ -93,9 +90,9 @@ fn compare(rt: &HostRuntime, held: &Instance) -> anyhow::Result<()> {
 // Draws the set, opens it and compares the two towns.
 fn show_towns(rt: &HostRuntime) -> anyhow::Result<()> {
     let mut words = vec![in rt.alloc(); 0u64; PARAMS.prepared_words()]?;
-    draw(PARAMS, &mut GrainSource::new(), &mut words)?;
+    draw(PARAMS, &mut GrainSource::new(), &mut words).context("no set was drawn")?;
     let mut held = Instance::empty();
-    held.open(PARAMS, &words)?;
+    held.open(PARAMS, &words).context("the set was refused")?;
     compare(rt, &held)
 }
 

@@ -9,16 +9,17 @@ use arrayvec::ArrayVec;
 use bits::refusal::Fault;
 use byteorder::{ByteOrder, LittleEndian};
 use cipher::instance::Instance;
-use files::reading::read;
+use files::reading::{WITNESS_WORDS, read};
+use files::report::MOST_BYTES;
 use std::fmt;
 
 // The bytes of a key and a block, and how much of a file the programs look at.
 pub const FRONT_BYTES: usize = 64;
 
-pub const MOST_FILE_BYTES: usize = 65536;
+pub const MOST_FILE_BYTES: usize = MOST_BYTES;
 
 // The words that there are for the set.
-const SET_WORDS: usize = 8192;
+pub const SET_WORDS: usize = 8192;
 
 // A key and a block as wide as the widest, of which as many words count as the set's have, and the file of the set.
 #[derive(Drop)]
@@ -66,7 +67,7 @@ impl<'a> Trial<'a> {
         ensures succeeds { Answerable self.now.file.now self.now.key self.now.block → IsOk result }
     {
         let mut words = [0; SET_WORDS];
-        let mut witness = [0; 4];
+        let mut witness = [0; WITNESS_WORDS];
         let params = read(self.file, &mut words, &mut witness)?;
         let mut held = Instance::empty();
         held.open(params, &words)?;
@@ -87,6 +88,29 @@ impl fmt::Display for Answer {
             write!(f, "{x} ")?;
         }
         Ok(())
+    }
+}
+
+// A refusal as the comparison wants it: `NO`, its number and its place.
+#[derive(Clone, Copy)]
+pub struct Refused(pub Fault);
+
+impl fmt::Display for Refused {
+    fn fmt<W: fmt::Write>(&self, f: &mut fmt::Formatter<W>) -> fmt::Result {
+        write!(f, "NO {} {}", self.0.refusal, self.0.place)
+    }
+}
+
+// What is said of a case: the answer, or the first refusal.
+#[derive(Drop)]
+pub struct Verdict(pub Result<Answer, Fault>);
+
+impl fmt::Display for Verdict {
+    fn fmt<W: fmt::Write>(&self, f: &mut fmt::Formatter<W>) -> fmt::Result {
+        match &self.0 {
+            Ok(answer) => write!(f, "{answer}"),
+            Err(fault) => write!(f, "{}", Refused(*fault)),
+        }
     }
 }
 

@@ -10,10 +10,12 @@ pub(crate) fn put_bytes(words: &mut [u64], bytes: &[u8]) {
     }
 }
 
-// Writes the bytes of the words, as many as `out` has: those past the last word are 0.
+// Writes the bytes of the words to bytes that are 0, as many as there are.
 pub(crate) fn get_bytes(words: &[u64], out: &mut [u8]) {
-    for (i, byte) in out.iter_mut().enumerate() {
-        let word = words.get(i / 8).copied().unwrap_or(0);
-        *byte = word.to_le_bytes()[i % 8].reverse_bits();
+    for (word, eight) in words.iter().zip(out.chunks_mut(8)) {
+        let bytes = word.to_le_bytes();
+        for (byte, b) in eight.iter_mut().zip(bytes.iter()) {
+            *byte = b.reverse_bits();
+        }
     }
 }

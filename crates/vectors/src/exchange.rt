@@ -52,11 +52,9 @@ fn exchange_vectors(p: Params, vectors: &mut [u64]) {
     }
 }
 
-// The words from `from` on and before `to`, as far as there are any.
+// The words from `from` on and before `to`, or none where there are fewer.
 fn part(words: &mut [u64], from: usize, to: usize) -> &mut [u64] {
-    let end = to.min(words.len());
-    let start = from.min(end);
-    &mut words[start..end]
+    words.get_mut(from..to).unwrap_or(&mut [])
 }
 
 // The prepared set in the other numbering: layers, constants, key matrices, inverses.

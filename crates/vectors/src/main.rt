@@ -5,6 +5,7 @@
 mod bytes;
 mod exchange;
 
+use arrayvec::ArrayVec;
 use bits::refusal::Fault;
 use bytes::{get_bytes, put_bytes};
 use cipher::instance::Instance;
@@ -61,12 +62,13 @@ fn compute(p: Params, words: &mut [u64]) -> Result<[u8; 32], Fault> {
     exchange_set(p, words);
     let mut held = Instance::empty();
     held.open(p, words)?;
-    let (w, v) = (p.block_words().min(4), p.key_words().min(4));
-    let mut key = [0u64; 4];
-    let mut block = [0u64; 4];
+    let mut key = ArrayVec::from([0u64; 4]);
+    let mut block = ArrayVec::from([0u64; 4]);
+    key.truncate(p.key_words());
+    block.truncate(p.block_words());
     put_bytes(&mut key, &KEY);
     put_bytes(&mut block, &PLAINTEXT);
-    encrypt_block(&held, p.m, &key[..v], &mut block[..w])?;
+    encrypt_block(&held, p.m, &key, &mut block)?;
     let mut computed = [0u8; 32];
     get_bytes(&block, &mut computed);
     Ok(computed)
