@@ -357,7 +357,7 @@ independent_next w i n j m r s Q h size is one cleared inv =
     shut : rows w (n - (i + 1)) s ≡ map (clear (2 ^ j) (value r)) (rows w (n - 1 - i) (drop w m))
     shut = ap (λ (k : ℕ). rows w k s) few ∙ subst (λ (k : ℕ). rows k (n - 1 - i) s ≡ map (clear (2 ^ j) (value r)) (rows k (n - 1 - i) (drop w m))) size cleared
 
--- ---- the two ways of `add_times`
+-- ---- the way of `add_times` that adds nothing
 
 pub times_none : (x r b : ℕ) → b ≡ 0 → x ≡ bit_xor x (b * r)
 times_none x r b e = sym (ap (bit_xor x) (ap (λ (k : ℕ). k * r) e ∙ zero-mul r) ∙ xor_zero_r x)
