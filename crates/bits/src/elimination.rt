@@ -63,7 +63,8 @@ fn augment_row(from: &[u64], k: usize, to: &mut [u64])
     unit(&mut to[w..], k);
 }
 
-// Writes the rows of the layer with the identity beside them.
+// Writes the rows of the layer with the identity beside them. That a layer is no taller than wide is asked here and by who calls it, and is no field of
+// `Matrix`: a matrix of constants or keys may be taller.
 fn augment(layer: Matrix<'_>, work: &mut [u64])
     requires room { length work.old ≡ layer.height * (2 * layer.width) }
     requires fits { layer.height ≤ 64 * layer.width }

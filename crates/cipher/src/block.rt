@@ -56,7 +56,7 @@ fn run_state(way: Direction, opened: Opened<'_>, key: &[u64], state: &mut [u64],
     }
 }
 
-// The cipher on a block, which changes only at the end.
+// The cipher on a block, which changes only at the end. The slices go one by one, as the public calls are lent them.
 fn run_in(
     way: Direction,
     opened: Opened<'_>,

@@ -67,7 +67,7 @@ fn undoes_in(inverse: Matrix<'_>, layer: Matrix<'_>, sum: &mut [u64]) -> bool
     true
 }
 
-// Whether a matrix times a layer is the identity; rows are of at most 4 words.
+// Whether a matrix times a layer is the identity. Rows are of at most 4 words, for which there is room here; a matrix itself may be wider.
 fn undoes(inverse: Matrix<'_>, layer: Matrix<'_>) -> bool
     requires tall { inverse.height ≤ 64 * layer.width }
     requires small { layer.width ≤ 4 }
