@@ -30,6 +30,7 @@ fn load_row(row: &[u8], out: &mut [u64])
     requires { 8 * length out.old ≤ length row.now + 7 }
     ensures { out.new ≡ words_of (length out.old) (byte_value row.now) }
 {
+    // tried: `zip` with the row's chunks, whose loop gives the proof no name for the words written so far
     for (k, x) in out.iter_mut().enumerate() {
         *x = word(row, 8 * k);
     }
