@@ -6,12 +6,13 @@ mod batching;
 mod maker;
 
 use anyhow::Context;
+use arrayvec::ArrayVec;
 use batching::time_batches;
 use cipher::instance::Instance;
 use cipher::params::Params;
 use drawing::drawer::draw;
 use drawing::grain::GrainSource;
-use files::reading::read;
+use files::reading::{WITNESS_WORDS, read};
 use maker::make_file;
 use std::env;
 use std::time::Instant;
@@ -40,11 +41,12 @@ fn time_both(
     params: Params,
     batches: u32,
 ) -> anyhow::Result<()> {
-    let key = [1u64, 0, 0, 0];
-    let mut block = [1u64, 0, 0, 0];
-    let (w, v) = (params.block_words().min(4), params.key_words().min(4));
+    let mut key = ArrayVec::from([1u64, 0, 0, 0]);
+    let mut block = ArrayVec::from([1u64, 0, 0, 0]);
+    key.truncate(params.key_words());
+    block.truncate(params.block_words());
     let count = batches.saturating_mul(64).max(1);
-    let alone = time_blocks(rt, held, &key[..v], &mut block[..w], count)?;
+    let alone = time_blocks(rt, held, &key, &mut block, count)?;
     let together = time_batches(rt, held, params, batches)?;
     let rate = u128::from(count) * 1_000_000 / alone.max(1);
     println!(rt; "  {count} blocks in {alone} us: {rate} blocks a second")?;
@@ -81,7 +83,7 @@ fn time_set(rt: &HostRuntime, params: Params, batches: u32) -> anyhow::Result<()
     )?;
     let file = make_file(rt.alloc(), params)?;
     let mut words = vec![in rt.alloc(); 0u64; params.prepared_words()]?;
-    let mut witness = [0u64; 4];
+    let mut witness = [0u64; WITNESS_WORDS];
     let start = Instant::now(rt)?;
     match read(&file, &mut words, &mut witness) {
         Ok(p) => {

@@ -1,24 +1,18 @@
 // A set file with matrices that look random, about half of their bits ones. To keep layers from collapsing, each is made of rows that have ones on the
 // diagonal and zeros below, every row added to all that follow.
 use cipher::params::Params;
+use files::reader::Mark;
 use noise::Noise;
 use std::alloc::Global;
 
-// Which matrices or vectors the rows of a record are.
-#[derive(Clone, Copy)]
-enum Kind {
-    Layer,
-    Constant,
-    Key,
-}
-
-impl Kind {
-    fn mark(self) -> &'static [u8] {
-        match self {
-            Kind::Layer => b"LM",
-            Kind::Constant => b"RC",
-            Kind::Key => b"KM",
-        }
+// The letters that a record begins with.
+fn letters(mark: Mark) -> &'static [u8] {
+    match mark {
+        Mark::Header => b"PR",
+        Mark::Layer => b"LM",
+        Mark::Constant => b"RC",
+        Mark::Key => b"KM",
+        Mark::End => b"EN",
     }
 }
 
@@ -53,16 +47,16 @@ impl Maker {
     // A record. Row `i` of a layer is the one before it and a row that begins at bit `i`.
     fn push_record(
         &mut self,
-        kind: Kind,
+        mark: Mark,
         number: u8,
         rows: usize,
         bits: usize,
     ) -> anyhow::Result<()> {
-        self.file.extend_from_slice(kind.mark())?;
+        self.file.extend_from_slice(letters(mark))?;
         self.file.push(number)?;
         let mut row = vec![in self.heap; 0u8; bits.div_ceil(8)]?;
         for i in 0..rows {
-            if let Kind::Layer = kind {
+            if mark == Mark::Layer {
                 self.add_row(&mut row, i, bits);
             } else {
                 row.fill(0);
@@ -74,7 +68,7 @@ impl Maker {
     }
 
     fn push_header(&mut self, p: Params) -> anyhow::Result<()> {
-        self.file.extend_from_slice(b"PR")?;
+        self.file.extend_from_slice(letters(Mark::Header))?;
         self.file.extend_from_slice(&p.n.to_be_bytes())?;
         self.file.extend_from_slice(&p.k.to_be_bytes())?;
         self.file.push((p.m % 256) as u8)?;
@@ -93,14 +87,14 @@ pub fn make_file(heap: Global, p: Params) -> anyhow::Result<Vec<u8>> {
     let (n, k, r) = (p.n as usize, p.k as usize, (p.r % 256) as u8);
     maker.push_header(p)?;
     for number in 1..=r {
-        maker.push_record(Kind::Layer, number, n, n)?;
+        maker.push_record(Mark::Layer, number, n, n)?;
     }
     for number in 1..=r {
-        maker.push_record(Kind::Constant, number, 1, n)?;
+        maker.push_record(Mark::Constant, number, 1, n)?;
     }
     for number in 0..=r {
-        maker.push_record(Kind::Key, number, n, k)?;
+        maker.push_record(Mark::Key, number, n, k)?;
     }
-    maker.file.extend_from_slice(b"EN")?;
+    maker.file.extend_from_slice(letters(Mark::End))?;
     Ok(maker.file)
 }

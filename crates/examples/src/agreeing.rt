@@ -30,11 +30,13 @@ fn alone(heap: Global, held: &Instance, key: &[u64], block: &[u64]) -> Result<Ve
     Ok(one)
 }
 
-// That the gates of one block were spent and nothing was granted.
-fn check_spent(rt: &impl Abort, before: Account, after: Account, p: Params) {
-    assert_eq!(rt; after.capacity, before.capacity);
-    assert_eq!(rt; after.granted, before.granted);
-    assert_eq!(rt; u64::from(after.done), u64::from(before.done) + p.gates());
+// The account after the gates of one block: nothing is granted.
+fn spent(before: Account, p: Params) -> Result<Account, Fail> {
+    let done = u64::from(before.done) + p.gates();
+    Ok(Account {
+        done: u32::try_from(done).ok().ok_or("too many gates")?,
+        ..before
+    })
 }
 
 // The cells that a batch uses.
@@ -64,6 +66,7 @@ impl<'x, 's> Lot<'x, 's> {
             masks,
             ..
         } = *self;
+        // by the names that callers of the library use, so that these are tried
         match way {
             Direction::Encrypt => encrypt(engine, held, count, blocks, keys, masks, cells),
             Direction::Decrypt => decrypt(engine, held, count, blocks, keys, masks, cells),
@@ -90,17 +93,16 @@ impl<'x, 's> Lot<'x, 's> {
         heap: Global,
         way: Direction,
         engine: &mut E,
-        blocks: &[u64],
         want: &[u64],
     ) -> Result<(), Fail> {
         let p = self.params()?;
         let mut wires = cells(heap, engine, used(p) + 2)?;
-        let mut changed = blocks.to_vec(heap)?;
+        let mut changed = self.blocks.to_vec(heap)?;
         let before = engine.account();
         self.run(way, engine, &mut changed, &mut wires)?;
         assert!(rt; changed.as_slice() == want);
         check_cleared(rt, engine, &wires, used(p));
-        check_spent(rt, before, engine.account(), p);
+        assert_eq!(rt; engine.account(), spent(before, p)?);
         Ok(())
     }
 
@@ -112,11 +114,19 @@ impl<'x, 's> Lot<'x, 's> {
         engine: &mut E,
     ) -> Result<(), Fail> {
         let there = self.one_by_one(rt, heap)?;
-        self.takes(rt, heap, Direction::Encrypt, engine, self.blocks, &there)?;
-        self.takes(rt, heap, Direction::Decrypt, engine, &there, self.blocks)
+        self.takes(rt, heap, Direction::Encrypt, engine, &there)?;
+        let back = Lot {
+            held: self.held,
+            count: self.count,
+            blocks: &there,
+            keys: self.keys,
+            masks: self.masks,
+        };
+        back.takes(rt, heap, Direction::Decrypt, engine, self.blocks)
     }
 
-    // That the batch is refused so in one direction, with so many cells, and blocks, cells and account are as before.
+    // That the batch is refused so in one direction, with so many cells, and blocks, cells and account are as before. Each of the six is of a kind of its
+    // own, and no two of them go together anywhere else.
     pub fn refused<E: Engine>(
         &self,
         rt: &impl Abort,

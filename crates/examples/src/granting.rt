@@ -1,12 +1,11 @@
 // Accounts: grants past the capacity, gates past the grants, and a run of batches until the gates are spent.
 use crate::agreeing::Lot;
-use crate::lent::cells;
+use crate::lent::{cells, filled};
 use crate::sample::sample;
 use batches::batch::encrypt;
 use bits::refusal::{Fault, Layer, Refusal};
 use cipher::instance::Instance;
 use engines::engine::{Account, Engine};
-use engines::share::ShareEngine;
 use engines::word::WordEngine;
 use noise::Noise;
 use std::alloc::Global;
@@ -66,8 +65,7 @@ fn whole_words(rt: HostRuntime) -> Result<(), Fail> {
 #[test]
 fn shares(rt: HostRuntime) -> Result<(), Fail> {
     let tape = Noise::new().triples(rt.alloc(), 7)?;
-    let mut engine = ShareEngine::empty();
-    engine.fill(&tape)?;
+    let mut engine = filled(&tape)?;
     grants(&rt, &mut engine)?;
     spends(&rt, &mut engine)
 }
@@ -114,7 +112,6 @@ fn three_batches_on_words(rt: HostRuntime) -> Result<(), Fail> {
 #[test]
 fn three_batches_on_shares(rt: HostRuntime) -> Result<(), Fail> {
     let tape = Noise::new().triples(rt.alloc(), 7)?;
-    let mut engine = ShareEngine::empty();
-    engine.fill(&tape)?;
+    let mut engine = filled(&tape)?;
     run(&rt, rt.alloc(), &mut engine)
 }

@@ -1,5 +1,7 @@
 // What calls are lent: cells for batches, with what they carry, and memory for reading.
+use bits::refusal::Fault;
 use engines::engine::Engine;
+use engines::share::ShareEngine;
 use std::alloc::{AllocError, Global};
 use std::process::Abort;
 
@@ -13,6 +15,13 @@ pub fn cells<E: Engine>(
     count: usize,
 ) -> Result<Vec<E::Wire>, AllocError> {
     (0..count).map(|_| engine.enter(FILL, 9)).collect(heap)
+}
+
+// An engine on shares with these triples.
+pub fn filled(tape: &[u64]) -> Result<ShareEngine<'_>, Fault> {
+    let mut engine = ShareEngine::empty();
+    engine.fill(tape)?;
+    Ok(engine)
 }
 
 // The words that the cells carry.

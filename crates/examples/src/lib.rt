@@ -30,5 +30,7 @@ mod sample;
 #[cfg(test)]
 mod sharing;
 #[cfg(test)]
+mod site;
+#[cfg(test)]
 mod stepping;
 pub mod worked;

@@ -1,5 +1,5 @@
 // Two lists of calls, one on whole words and one on shares, and a set file: answers, blocks, cells and accounts.
-use crate::lent::{FRESH, Lent, cells, check_cleared};
+use crate::lent::{FRESH, Lent, cells, check_cleared, filled};
 use crate::sample::{PARAMS, SAMPLE, sample};
 use bits::refusal::{Fault, Layer, Refusal};
 use cipher::instance::Instance;
@@ -20,18 +20,17 @@ fn ask<'x, W: Copy>(list: &mut Vec<Entry<'x, W>>, call: Call<'x, W>) -> Result<(
     Ok(())
 }
 
-// A batch for an engine of some kind, with room for it.
+// A batch for an engine of some kind, with room for it: each block is one word.
 fn batch<'x, E: Engine>(
     heap: Global,
     engine: &E,
     held: Instance<'x>,
-    count: usize,
     blocks: &[u64],
     keys: &[u64],
 ) -> Result<Batch<'x, E::Wire>, Fail> {
     Ok(Batch {
         held,
-        count,
+        count: blocks.len(),
         blocks: blocks.to_vec(heap)?,
         keys: keys.to_vec(heap)?,
         masks: vec![in heap; 5u64; 6]?,
@@ -42,10 +41,10 @@ fn batch<'x, E: Engine>(
 // Six calls for an engine of 7 gates: the first, the fourth and the last are refused.
 fn first_list(heap: Global, e: &WordEngine) -> Result<Vec<Entry<'static, Word>>, Fail> {
     let mut list = Vec::new(heap);
-    let there = batch(heap, e, sample()?, 3, &[1, 0, 0], &[0, 0, 7])?;
-    let none = batch(heap, e, Instance::empty(), 1, &[1], &[0])?;
-    let back = batch(heap, e, sample()?, 2, &[7, 6], &[7, 0])?;
-    let late = batch(heap, e, sample()?, 1, &[1], &[0])?;
+    let there = batch(heap, e, sample()?, &[1, 0, 0], &[0, 0, 7])?;
+    let none = batch(heap, e, Instance::empty(), &[1], &[0])?;
+    let back = batch(heap, e, sample()?, &[7, 6], &[7, 0])?;
+    let late = batch(heap, e, sample()?, &[1], &[0])?;
     ask(&mut list, Call::Grant(8))?;
     ask(&mut list, Call::Grant(7))?;
     ask(&mut list, Call::Encrypt(there))?;
@@ -58,10 +57,10 @@ fn first_list(heap: Global, e: &WordEngine) -> Result<Vec<Entry<'static, Word>>,
 // Five calls for an engine of 6 triples: the first and the third are refused.
 fn second_list(heap: Global, e: &ShareEngine) -> Result<Vec<Entry<'static, Shares>>, Fail> {
     let mut list = Vec::new(heap);
-    let early = batch(heap, e, sample()?, 1, &[1], &[0])?;
-    let stray = batch(heap, e, sample()?, 2, &[1, 9], &[0, 0])?;
-    let there = batch(heap, e, sample()?, 2, &[0, 1], &[7, 0])?;
-    let back = batch(heap, e, sample()?, 3, &[1, 7, 6], &[0, 7, 0])?;
+    let early = batch(heap, e, sample()?, &[1], &[0])?;
+    let stray = batch(heap, e, sample()?, &[1, 9], &[0, 0])?;
+    let there = batch(heap, e, sample()?, &[0, 1], &[7, 0])?;
+    let back = batch(heap, e, sample()?, &[1, 7, 6], &[0, 7, 0])?;
     ask(&mut list, Call::Encrypt(early))?;
     ask(&mut list, Call::Grant(6))?;
     ask(&mut list, Call::Decrypt(stray))?;
@@ -140,8 +139,7 @@ fn sit(
 ) -> Result<Lent, Fail> {
     let tape = Noise::new().triples(heap, 6)?;
     let mut first = WordEngine::new(7);
-    let mut second = ShareEngine::empty();
-    second.fill(&tape)?;
+    let mut second = filled(&tape)?;
     let mut list = first_list(heap, &first)?;
     let mut other = second_list(heap, &second)?;
     let mut lent = FRESH;

@@ -1,13 +1,13 @@
 // Batches: every refusal with its place, the order of the checks, and that nothing has changed.
 use crate::agreeing::Lot;
 use crate::sample::{drawn, opened, sample};
+use crate::site::Site;
 use bits::refusal::{Fault, Layer, Refusal};
 use cipher::direction::Direction;
 use cipher::instance::Instance;
 use cipher::params::Params;
 use engines::engine::Engine;
 use engines::word::WordEngine;
-use std::alloc::Global;
 use std::process::Abort;
 use std::test::Fail;
 
@@ -26,19 +26,7 @@ const ENOUGH: Room = Room {
     gates: 3,
 };
 
-// Where batches are tried.
-#[derive(Drop)]
-struct Site<'x, 's, R: Abort> {
-    rt: &'x R,
-    heap: Global,
-    held: &'x Instance<'s>,
-}
-
 impl<'x, 's, R: Abort> Site<'x, 's, R> {
-    fn new(rt: &'x R, heap: Global, held: &'x Instance<'s>) -> Site<'x, 's, R> {
-        Site { rt, heap, held }
-    }
-
     // That a batch is refused so in both directions, and nothing has changed.
     fn both(
         &self,

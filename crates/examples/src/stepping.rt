@@ -5,7 +5,7 @@ use files::reader::{Mark, Reader};
 use std::process::Abort;
 use std::test::Fail;
 
-// That the next record is this one.
+// That the next record is this one, which each caller writes on one line: so its fields come one by one.
 fn check_step(
     rt: &impl Abort,
     reader: &mut Reader,
@@ -22,10 +22,13 @@ fn check_step(
     Ok(())
 }
 
-// That the next step is refused so.
-fn check_stop(rt: &impl Abort, reader: &mut Reader, refusal: Refusal, place: usize) {
+// That the next step is refused so, with the number by which users know the refusal.
+fn check_stop(rt: &impl Abort, reader: &mut Reader, number: u8, refusal: Refusal, place: usize) {
     let want = Fault::at(refusal, Layer::File, place);
-    assert_eq!(rt; reader.step().err(), Some(want));
+    let stop = reader.step().err();
+    let seen = stop.map(|fault| fault.refusal.number());
+    assert_eq!(rt; seen, Some(number));
+    assert_eq!(rt; stop, Some(want));
 }
 
 #[test]
@@ -47,12 +50,12 @@ fn a_refused_step_moves_nothing(rt: HostRuntime) -> Result<(), Fail> {
     file[10] = 2;
     let mut reader = Reader::new(&file);
     check_step(&rt, &mut reader, Mark::Header, 0, 2, 6)?;
-    check_stop(&rt, &mut reader, Refusal::WrongNumber, 10);
-    check_stop(&rt, &mut reader, Refusal::WrongNumber, 10);
+    check_stop(&rt, &mut reader, 5, Refusal::WrongNumber, 10);
+    check_stop(&rt, &mut reader, 5, Refusal::WrongNumber, 10);
     // a step asks first that the record is whole
     let mut reader = Reader::new(&file[..13]);
     check_step(&rt, &mut reader, Mark::Header, 0, 2, 6)?;
-    check_stop(&rt, &mut reader, Refusal::Truncated, 13);
+    check_stop(&rt, &mut reader, 3, Refusal::Truncated, 13);
     Ok(())
 }
 
@@ -66,6 +69,6 @@ fn a_byte_after_the_end_refuses_the_end(rt: HostRuntime) -> Result<(), Fail> {
     check_step(&rt, &mut reader, Mark::Constant, 1, 17, 1)?;
     check_step(&rt, &mut reader, Mark::Key, 0, 21, 3)?;
     check_step(&rt, &mut reader, Mark::Key, 1, 27, 3)?;
-    check_stop(&rt, &mut reader, Refusal::WrongMark, 32);
+    check_stop(&rt, &mut reader, 4, Refusal::WrongMark, 32);
     Ok(())
 }
