@@ -19,7 +19,8 @@ use cipher::prepared::Round;
 use engines::engine::Engine;
 
 // One round: substitution, layer, round key, constant. `spare` and `sums` are changed. The wires are slices, here and below, and no struct of slices: each
-// is lent on alone, now for reading and now for writing, so that every call would take the struct apart.
+// is lent on alone, now for reading and now for writing, so that every call would take the struct apart. The gates that are left are asked for by number, which is
+// another for one triple, one round and all rounds.
 fn forward<E: Engine>(
     e: &mut E,
     round: Round<'_>,

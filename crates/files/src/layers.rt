@@ -33,7 +33,8 @@ impl<'a> Layers<'a> {
         }
     }
 
-    // What `invert` does, with room for the layer.
+    // What `invert` does, with room for the layer. Here and below a record's body is asked to be as long as a layer of this many bits: a struct that said so
+    // would be made for one call.
     fn invert_in(
         &self,
         body: &[u8],
