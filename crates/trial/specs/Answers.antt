@@ -1,5 +1,7 @@
 -- What a case of the cipher is answered.
-use Rattle.std.specs.Prelude.{◌≡◌, ℕ, ◌≤◌, List, take, Some, Ok}
+use Rattle.std.specs.Prelude.{◌≡◌, ℕ, ◌≤◌, List, ◌++◌, take, Some, Ok, codes, decimal}
+use Rattle.bits.specs.declared.refusal.Fault.{Fault}
+use Rattle.bits.specs.Refusals.{number_of}
 use Rattle.bits.specs.Gf2.{value, words_of}
 use Rattle.cipher.specs.LowMC.{decrypt, encrypt}
 use Rattle.cipher.specs.Parameters.{block_words_of, key_words_of, prepared_words_of}
@@ -26,3 +28,7 @@ pub record Answerable (file key block : List ℕ) : Type 0 where
   pub room : prepared_words_of set.params ≤ 8192
   pub invertible : Each Invertible set.layers
   pub fitting : block_checks (Some (set.params, prepared set)) (take (key_words_of set.params) key) (take (block_words_of set.params) block) 8 ≡ Ok tt
+
+-- a refusal as it is shown: NO, its number and its place
+abbrev pub refused_line : Fault → List ℕ
+refused_line e = codes "NO " ++ (decimal (number_of e.refusal) ++ (codes " " ++ decimal e.place))

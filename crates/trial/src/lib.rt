@@ -1,9 +1,9 @@
 // One case of the cipher: a key, a block and a set file, and what the block becomes under that set in both directions.
 #![tactic(auto)]
 
-ghost use Rattle.std.specs.Prelude.{◌≡◌, length, take, drop, IfOk, IsOk};
+ghost use Rattle.std.specs.Prelude.{◌≡◌, length, take, drop, IfOk, IsOk, Some};
 ghost use Rattle.byteorder.specs.Endian.{IsRead, little_number};
-ghost use Rattle.trial.specs.Answers.{Answerable, Answered};
+ghost use Rattle.trial.specs.Answers.{Answerable, Answered, refused_line};
 
 use arrayvec::ArrayVec;
 use bits::refusal::Fault;
@@ -96,6 +96,8 @@ impl fmt::Display for Answer {
 pub struct Refused(pub Fault);
 
 impl fmt::Display for Refused {
+    ghost output = { λ r. Some (refused_line r.0) };
+
     fn fmt<W: fmt::Write>(&self, f: &mut fmt::Formatter<W>) -> fmt::Result {
         write!(f, "NO {} {}", self.0.refusal, self.0.place)
     }
