@@ -131,3 +131,15 @@ and_xor =
     let r : bit_xor (bit_and a v) (bit_and b v) % 2 ≡ (bit_and a v % 2 + bit_and b v % 2) % 2 = omega (arith, xor_low (bit_and a v) (bit_and b v)) in
     and_low (bit_xor a b) v ∙ ap (λ (x : ℕ). min x (v % 2)) l ∙ digit_and (a % 2) (b % 2) (v % 2) (omega arith) (omega arith) (omega arith)
     ∙ sym (r ∙ ap₂ (λ (x y : ℕ). (x + y) % 2) (and_low a v) (and_low b v))))
+
+min3 : (a b c : ℕ) → min (min a b) c ≡ min a (min b c)
+min3 a b c = omega arith
+
+pub and_assoc : (a b c : ℕ) → bit_and (bit_and a b) c ≡ bit_and a (bit_and b c)
+and_assoc =
+    bin_ind (λ (a : ℕ). (b c : ℕ) → bit_and (bit_and a b) c ≡ bit_and a (bit_and b c)) (λ b c. refl)
+    (λ a ih b c. same_digits _ _
+    (and_shr (bit_and a b) c 1 ∙ ap (λ (x : ℕ). bit_and x (c / 2)) (and_shr a b 1) ∙ ih (b / 2) (c / 2)
+    ∙ sym (and_shr a (bit_and b c) 1 ∙ ap (bit_and (a / 2)) (and_shr b c 1)))
+    (and_low (bit_and a b) c ∙ ap (λ (x : ℕ). min x (c % 2)) (and_low a b) ∙ min3 (a % 2) (b % 2) (c % 2)
+    ∙ sym (and_low a (bit_and b c) ∙ ap (min (a % 2)) (and_low b c))))

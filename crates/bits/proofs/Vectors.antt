@@ -1,10 +1,11 @@
 -- Vectors in words and matrices in rows of words, and the steps of the loops over them.
-use Rattle.std.proofs.Common.{◌≡◌, ℕ, zero, suc, ◌+◌, ◌-◌, ◌*◌, ◌/◌, ◌%◌, ◌^◌, ◌<◌, ◌≤◌, List, [], ◌∷◌, ◌++◌, map, length, get_or, take, drop, set, replicate, sym, refl, ap, ◌∙◌, subst, ap₂, mul-le-mul_right, mul_assoc, suc-mul, mul_comm, add-mul, add_comm, lt_of_mul-lt-mul_right, one-mul, pow-suc, zero-add, zero-mul, mul_left_comm, add-one, arith, length-append, length-drop, length-take}
+use Rattle.std.proofs.Common.{◌≡◌, ℕ, zero, suc, ◌+◌, ◌-◌, ◌*◌, ◌/◌, ◌%◌, ◌^◌, ◌<◌, ◌≤◌, min, List, [], ◌∷◌, ◌++◌, map, length, get_or, take, drop, set, replicate, sym, refl, ap, ◌∙◌, subst, ap₂, mul-le-mul_right, mul_assoc, suc-mul, mul_comm, add-mul, add_comm, lt_of_mul-lt-mul_right, one-mul, pow-suc, zero-add, zero-mul, mul_left_comm, add-one, arith, length-append, length-drop, length-take}
+use native.Mathlib.Decide.{dec_le}
 use Rattle.std.proofs.lemmas.Nat.{pow-add, pow_below, shl_whole, shr_high}
 use lib.Arith.{bin_ind}
 use lib.Bits.{bit_and, bit_xor, bit_or, and_block, and_lt, or_shifted_r, xor_block, xor_zero_r, xor_assoc}
-use lib.Count.{ones_cat}
-use Rattle.std.proofs.lemmas.List.{drop-drop, drop_at, drop-take, take-append-drop, take_at, take-take, map-append}
+use lib.Count.{ones, ones_cat}
+use Rattle.std.proofs.lemmas.List.{drop-drop, drop_more, drop_all, drop_at, drop-take, get_or_past, take-append-drop, take_at, take-take, map-append}
 use Rattle.std.proofs.lemmas.Slice.{take-put_mid_below, between-put_mid, drop-put_mid}
 use borrow.Rule.Slice.PartMut.{put_mid, same_len_mid}
 use Rattle.std.specs.List.{fold, zip}
@@ -75,6 +76,11 @@ pub length_words_of : (w x : ℕ) → length (words_of w x) ≡ w
 length_words_of zero x = refl
 length_words_of (suc w) x = ap suc (length_words_of w (x / 2 ^ 64))
 
+pub words_words_of : (w x : ℕ) → Words (words_of w x)
+words_words_of zero x i = omega arith
+words_words_of (suc w) x zero = omega arith
+words_words_of (suc w) x (suc i) = words_words_of w (x / 2 ^ 64) i
+
 pub value_words_of : (w x : ℕ) → x < 2 ^ (64 * w) → value (words_of w x) ≡ x
 value_words_of zero x h = omega arith
 value_words_of (suc w) x h = omega (arith, value_words_of w (x / 2 ^ 64) (omega (arith, word_power w)))
@@ -90,6 +96,14 @@ pub value_below : (ws : List ℕ) → Words ws → value ws < 2 ^ (64 * length w
 value_below [] f = omega arith
 value_below (w ∷ ws) f =
     omega (arith, f 0, value_below ws (λ i. f (suc i)), word_power (length ws))
+
+pub value_one : (xs ys : List ℕ) → length xs ≡ length ys → Words xs → Words ys → value xs ≡ value ys → xs ≡ ys
+value_one [] [] l f g e = refl
+value_one [] (y ∷ ys) l f g e = absurd (omega arith)
+value_one (x ∷ xs) [] l f g e = absurd (omega arith)
+value_one (x ∷ xs) (y ∷ ys) l f g e =
+    ap₂ (λ (a : ℕ) (b : List ℕ). a ∷ b) (omega (arith, f 0, g 0))
+    (value_one xs ys (omega arith) (λ i. f (suc i)) (λ i. g (suc i)) (omega (arith, f 0, g 0)))
 
 -- a vector in two parts
 pub value_append : (xs ys : List ℕ) → value (xs ++ ys) ≡ value xs + 2 ^ (64 * length xs) * value ys
@@ -107,6 +121,10 @@ pub words_drop : (w : ℕ) (ws : List ℕ) → Words ws → Words (drop w ws)
 words_drop zero ws f = f
 words_drop (suc w) [] f = f
 words_drop (suc w) (x ∷ ws) f = words_drop w ws (λ j. f (suc j))
+
+pub words_append : (xs ys : List ℕ) → Words xs → Words ys → Words (xs ++ ys)
+words_append [] ys f g = g
+words_append (x ∷ xs) ys f g = elim [ zero ↦ f 0 | suc i ↦ words_append xs ys (λ j. f (suc j)) g i ]
 
 -- the vector past its first w words
 pub value_high : (w : ℕ) (xs : List ℕ) → Words xs → w ≤ length xs → value (drop w xs) ≡ value xs / 2 ^ (64 * w)
@@ -157,6 +175,16 @@ value_zeros (suc n) = omega (arith, value_zeros n)
 
 -- ---- the steps of the loops
 
+pub dot_more : (xs ys : List ℕ) (i acc t : ℕ) → i < length xs → i < length ys → get_or xs i 0 < 2 ^ 64 → get_or ys i 0 < 2 ^ 64
+    → (parity acc + dot (value (drop i xs)) (value (drop i ys))) % 2 ≡ t
+    → (parity (bit_xor acc (bit_and (get_or xs i 0) (get_or ys i 0))) + dot (value (drop (i + 1) xs)) (value (drop (i + 1) ys))) % 2 ≡ t
+dot_more xs ys i acc t hx hy fx fy inv =
+    let a = drop_more xs i 0 hx in
+    let b = drop_more ys i 0 hy in
+    let w = dot_word (get_or xs i 0) (get_or ys i 0) (value (drop (i + 1) xs)) (value (drop (i + 1) ys)) fx fy in
+    let j : (parity acc + dot (value (get_or xs i 0 ∷ drop (i + 1) xs)) (value (get_or ys i 0 ∷ drop (i + 1) ys))) % 2 ≡ t = rw (a, b) at inv in
+    omega (arith, w, j, parity_xor acc (bit_and (get_or xs i 0) (get_or ys i 0)))
+
 -- row i of n rows of w words ends within them
 pub row_ends : (i n w : ℕ) → i < n → i * w + w ≤ n * w
 row_ends i n w h = omega (arith, suc-mul i w, mul-le-mul_right w h)
@@ -173,6 +201,13 @@ product_more ws out w i v b h inv e =
 pub value_cleared : (ws : List ℕ) → ((k : ℕ) → k < length ws → get_or ws k 0 ≡ 0) → value ws ≡ 0
 value_cleared [] h = refl
 value_cleared (w ∷ ws) h = omega (arith, h 0 (omega arith), value_cleared ws (λ k l. h (suc k) (omega arith)))
+
+pub dot_done : (xs ys : List ℕ) (i acc t : ℕ) → min (length xs) (length ys) ≤ i → (parity acc + dot (value (drop i xs)) (value (drop i ys))) % 2 ≡ t → ones acc % 2 ≡ t
+dot_done xs ys i acc t h inv = omega (arith, inv, parity_ones acc, none (dec_le (length xs) i))
+  where
+    none : Dec (length xs ≤ i) → dot (value (drop i xs)) (value (drop i ys)) ≡ 0
+    none (yes l) = ap (λ (zs : List ℕ). dot (value zs) (value (drop i ys))) (drop_all i xs l) ∙ dot_zero_l (value (drop i ys))
+    none (no l) = ap (λ (zs : List ℕ). dot (value (drop i xs)) (value zs)) (drop_all i ys (omega arith)) ∙ dot_zero_r (value (drop i xs))
 
 -- ---- bits and sums of vectors in words
 
@@ -201,6 +236,13 @@ pub bit_read : (ws : List ℕ) (j : ℕ) → Words ws → get_or ws (j / 64) 0 /
 bit_read ws j f =
     let e : 64 * (j / 64) + j % 64 ≡ j = omega arith in
     sym (dot_power (j % 64) (get_or ws (j / 64) 0)) ∙ sym (dot_bit ws (j / 64) (j % 64) (omega arith) f) ∙ ap (λ (x : ℕ). dot (2 ^ x) (value ws)) e
+
+-- past the end a vector has no ones
+pub bit_past : (ws : List ℕ) (j : ℕ) → Words ws → length ws ≤ j / 64 → 0 ≡ dot (2 ^ j) (value ws)
+bit_past ws j f h =
+    let e : 64 * (j / 64) + j % 64 ≡ j = omega arith in
+    sym (ap (λ (x : ℕ). dot (2 ^ x) (value ws)) (sym e) ∙ dot_bit ws (j / 64) (j % 64) (omega arith) f
+    ∙ ap (dot (2 ^ (j % 64))) (get_or_past ws (j / 64) 0 h) ∙ dot_zero_r (2 ^ (j % 64)))
 
 xor_word : (r s a b : ℕ) → r < 2 ^ 64 → s < 2 ^ 64 → bit_xor (r + 2 ^ 64 * a) (s + 2 ^ 64 * b) ≡ bit_xor r s + 2 ^ 64 * bit_xor a b
 xor_word r s a b hr hs =
@@ -290,6 +332,10 @@ pub length_flat : (w : ℕ) (xs : List ℕ) → length (flat w xs) ≡ length xs
 length_flat w [] = sym (zero-mul w)
 length_flat w (x ∷ xs) =
     length-append (words_of w x) (flat w xs) ∙ ap₂ (λ (a b : ℕ). a + b) (length_words_of w x) (length_flat w xs) ∙ add_comm w (length xs * w) ∙ sym (suc-mul (length xs) w)
+
+pub words_flat : (w : ℕ) (xs : List ℕ) → Words (flat w xs)
+words_flat w [] i = omega arith
+words_flat w (x ∷ xs) i = words_append (words_of w x) (flat w xs) (words_words_of w x) (words_flat w xs) i
 
 pub flat_rows : (w n : ℕ) (ws : List ℕ) → length ws ≡ n * w → Words ws → flat w (rows w n ws) ≡ ws
 flat_rows w zero [] h f = refl

@@ -15,11 +15,13 @@ pub fn width(bits: usize) -> usize
 pub fn parity(row: &[u64], v: &[u64]) -> u64
     ensures { result ≡ dot (value row.now) (value v.now) }
 {
-    let shared = row
-        .iter()
-        .zip(v)
-        .fold(0, |acc: u64, (x, y)| acc ^ (*x & *y));
-    u64::from(shared.count_ones() % 2)
+    // No `zip`, which looks at two ends for each word: rows are of a few words, and a block takes a fifth longer with it.
+    let shared = row.len().min(v.len());
+    let mut acc: u64 = 0;
+    for (i, x) in row[..shared].iter().enumerate() {
+        acc ^= *x & v[i];
+    }
+    u64::from(acc.count_ones() % 2)
 }
 
 // Does nothing but say that each word is below 2^64: a proof knows that of a shared slice, and not of one that a loop writes to.
@@ -34,8 +36,11 @@ pub fn bit(v: &[u64], j: usize) -> u64
     ensures { result ≡ dot (2 ^ j) (value v.now) }
 {
     fitting(v);
-    let word = v.get(j / 64).copied().unwrap_or(0);
-    (word >> (j % 64)) % 2
+    // No `unwrap_or` before the shift: past the end there is then nothing to shift, and the cipher asks for a bit at each turn.
+    match v.get(j / 64) {
+        Some(word) => (*word >> (j % 64)) % 2,
+        None => 0,
+    }
 }
 
 // The place of the lowest one of `row`, or nothing where it has none. The bound is there because a place is a `usize`.

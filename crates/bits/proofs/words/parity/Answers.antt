@@ -1,19 +1,25 @@
-use Rattle.std.proofs.Common.{rules, ◌≡◌, ℕ, fold, ap, arith}
-use borrow.Author.Tests.{tests}
-use lib.Bits.{bit_and, bit_xor}
-use Rattle.std.specs.List.{zip}
-use Rattle.std.proofs.lemmas.Iterator.{YieldsList-from_slice, YieldsList-from_zip}
-use Rattle.std.proofs.lemmas.Iterator.Consumers.{fold_from_yields_List}
-use Rattle.bits.specs.Gf2.{parity, value}
-use Rattle.bits.proofs.Products.{dot_below, parity_ones}
-use Rattle.bits.proofs.Vectors.{dot_folded, parity_zero}
+use Rattle.std.proofs.Common.{◌≡◌, ◌<◌, ◌∙◌, get_or, length, take, min, arith, length-take}
+use Rattle.std.proofs.lemmas.List.{get_or-take}
+use Rattle.bits.specs.Gf2.{value}
+use Rattle.bits.proofs.Vectors.{parity_zero, dot_more, dot_done}
+use Rattle.bits.proofs.Products.{dot_below}
 use Rattle.bits.proofs.words.parity.Goals as goal
+
+pub loop-i-init : goal.loop-i-init
+loop-i-init c = omega (arith, parity_zero, dot_below (value c.args.row.now) (value c.args.v.now))
+
+pub loop-i-preserved : goal.loop-i-preserved
+loop-i-preserved c =
+    let row = c.args.row.now in
+    let v = c.args.v.now in
+    let i = c.loop-i.i in
+    let n = c.min-shared.result in
+    let size : length (take n row) ≡ min n (length row) = length-take n row in
+    let here : i < n = omega (arith, size, c.loop-i-test.true) in
+    let word : get_or (take n row) i 0 ≡ get_or row i 0 = get_or-take n row i 0 here in
+    rw word (dot_more row v i c.loop-i.acc _ (omega arith) (omega arith) (omega (arith, c.type_inv.row i)) (omega (arith, c.type_inv.v i)) c.loop-i.invariant)
 
 pub returns : goal.returns
 returns c =
-    let row = c.args.row.now in
-    let v = c.args.v.now in
-    let shared : c.fold-shared.result ≡ fold (λ (a : ℕ) (p : ℕ × ℕ). bit_xor a (bit_and p.0 p.1)) 0 (zip row v) =
-    fold_from_yields_List _ (λ a p. bit_xor a (bit_and p.0 p.1)) 0 c.fold-shared.result c.fold-shared.ensures.ran
-    (YieldsList-from_zip (YieldsList-from_slice row cc) (YieldsList-from_slice v cc)) (λ a x b q k. search (rules, tests)) in
-    omega (arith, c.from.ensures, parity_ones c.fold-shared.result, ap parity shared, dot_folded row v 0 (λ i. omega (arith, c.type_inv.row i)) (λ i. omega (arith, c.type_inv.v i)), parity_zero, dot_below (value row) (value v))
+    let size : length (take c.min-shared.result c.args.row.now) ≡ min c.min-shared.result (length c.args.row.now) = length-take c.min-shared.result c.args.row.now in
+    c.from.ensures ∙ dot_done c.args.row.now c.args.v.now c.loop-i.i c.loop-i.acc _ (omega (arith, size)) c.loop-i.invariant
