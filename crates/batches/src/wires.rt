@@ -23,6 +23,19 @@ fn group_size(room: usize) -> usize
     }
 }
 
+// The place of the highest one of `t`, which is from 1 to 15. Not by `ilog2`: with it the loop over the ways is not unrolled, and takes half as long again.
+fn highest(t: usize) -> usize
+    requires { (1 ≤ t) × (t < 16) }
+    ensures { (result < 4) × (2 ^ result ≤ t) × (t < 2 ^ (result + 1)) }
+{
+    match t {
+        8.. => 3,
+        4.. => 2,
+        2.. => 1,
+        _ => 0,
+    }
+}
+
 // The wire at `i`, or one that carries 0 past the end.
 fn wire_at<E: Engine>(e: &E, from: &[E::Wire], i: usize) -> E::Wire
     ensures { E.means result ≡ slice_index (map E.means from.now) i }
@@ -39,7 +52,7 @@ fn sum_ways<E: Engine>(e: &E, from: &[E::Wire], b: usize, sums: &mut [E::Wire])
     sums[0] = e.enter(0, 0);
     // `t` is a set of wires, and not the place of one.
     for t in 1..1usize << b {
-        let top = t.ilog2() as usize;
+        let top = highest(t);
         sums[t] = e.add(sums[t - (1 << top)], wire_at(e, from, top));
     }
 }
