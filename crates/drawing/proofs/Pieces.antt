@@ -26,10 +26,10 @@ joined_push : (xs : List (List ℕ)) (x : List ℕ) → joined (xs ++ (x ∷ [])
 joined_push [] x = append-nil x
 joined_push (y ∷ xs) x = ap (λ (zs : List ℕ). y ++ zs) (joined_push xs x) ∙ sym (append_assoc y (joined xs) x)
 
-flat_joined : (w : ℕ) (xs : List (List ℕ)) (x : List ℕ) → flat w (joined (xs ++ (x ∷ []))) ≡ flat w (joined xs) ++ flat w x
+pub flat_joined : (w : ℕ) (xs : List (List ℕ)) (x : List ℕ) → flat w (joined (xs ++ (x ∷ []))) ≡ flat w (joined xs) ++ flat w x
 flat_joined w xs x = ap (flat w) (joined_push xs x) ∙ flat_append w (joined xs) x
 
-each_push : {A : Type 0} (P : A → Type 0) (xs : List A) (x : A) → Each P xs → P x → Each P (xs ++ (x ∷ []))
+pub each_push : {A : Type 0} (P : A → Type 0) (xs : List A) (x : A) → Each P xs → P x → Each P (xs ++ (x ∷ []))
 each_push P [] x e p = (p, tt)
 each_push P (y ∷ xs) x e p = (e.0, each_push P xs x e.1 p)
 

@@ -16,17 +16,20 @@ at_triple t j n b h e =
     ∙ ap (λ (v : Bool). cond v (check_from t (j + 1) (n - (j + 1))) (Err (fault_at BadTriples Engine j))) e
 
 -- true triples leave it to the rest
-past_true : (t : List ℕ) (j n : ℕ) → j ≤ n → ((k : ℕ) → k < j → truth (triple_of t k) ≡ true) → check_from t 0 n ≡ check_from t j (n - j)
-past_true t zero n h all = ap (check_from t 0) (omega arith)
-past_true t (suc j) n h all =
-    past_true t j n (omega arith) (λ k l. all k (omega arith))
+pub past_true : (t : List ℕ) (j n : ℕ) → j < n → truth (triple_of t j) ≡ true → check_from t j (n - j) ≡ check_from t (j + 1) (n - (j + 1))
+past_true t j n h e = at_triple t j n true h e
+
+all_true : (t : List ℕ) (j n : ℕ) → j ≤ n → ((k : ℕ) → k < j → truth (triple_of t k) ≡ true) → check_from t 0 n ≡ check_from t j (n - j)
+all_true t zero n h all = ap (check_from t 0) (omega arith)
+all_true t (suc j) n h all =
+    all_true t j n (omega arith) (λ k l. all k (omega arith))
     ∙ at_triple t j n true (omega arith) (all j (omega arith))
     ∙ ap (λ i. check_from t i (n - i)) (omega arith)
 
 pub none_false : (t : List ℕ) (n : ℕ) → ((k : ℕ) → k < n → truth (triple_of t k) ≡ true) → check_from t 0 n ≡ Ok tt
-none_false t n all = let e : n - n ≡ 0 = omega arith in past_true t n n (omega arith) all ∙ ap (check_from t n) e
+none_false t n all = let e : n - n ≡ 0 = omega arith in all_true t n n (omega arith) all ∙ ap (check_from t n) e
 
 -- the first false one is refused
 pub first_false : (t : List ℕ) (j n : ℕ) → j < n → ((k : ℕ) → k < j → truth (triple_of t k) ≡ true) → truth (triple_of t j) ≡ false
     → check_from t 0 n ≡ Err (fault_at BadTriples Engine j)
-first_false t j n h all e = past_true t j n (omega arith) all ∙ at_triple t j n false h e
+first_false t j n h all e = all_true t j n (omega arith) all ∙ at_triple t j n false h e
